@@ -1,0 +1,1 @@
+// Document 01 as definitions: see specs/. No code stands here.

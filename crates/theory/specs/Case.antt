@@ -1,0 +1,2 @@
+-- Runs on the test bench, by computing.
+pub mod J
