@@ -41,13 +41,10 @@ pub fn bound(task: &Task, stream: Stream, rivals: &[Rival]) -> Option<Bound> {
 
 /// Looks at job after job until the next one comes no sooner than the window ends, or gives none
 /// if a window or the number of jobs leaves the limits.
-///
-/// A window is at least C+ longer than the one before, so the search for it starts there.
 fn look(c_plus: u64, stream: Stream, rivals: &[Rival]) -> Option<Bound> {
     let mut r_plus = 0;
-    let mut length = 0;
     for q in 1..=MOST_JOBS {
-        length = window(q * c_plus, length + c_plus, rivals)?;
+        let length = window(q * c_plus, rivals)?;
         r_plus = r_plus.max(length - stream.least_distance(q));
         if stream.least_distance(q + 1) >= length {
             return Some(Bound { r_plus, jobs: q });
@@ -56,10 +53,10 @@ fn look(c_plus: u64, stream: Stream, rivals: &[Rival]) -> Option<Bound> {
     None
 }
 
-/// The window B(q) for jobs that cost `own` ticks in all, or none if it is longer than the limit;
-/// `start` is above 0 and no longer than the window.
-fn window(own: u64, start: u64, rivals: &[Rival]) -> Option<u64> {
-    let mut t = start;
+/// The window B(q) for jobs that cost `own` ticks in all, or none if it is longer than the limit.
+/// No window is shorter than its jobs' cost, so the search starts there.
+fn window(own: u64, rivals: &[Rival]) -> Option<u64> {
+    let mut t = own;
     while t <= MOST_TICKS {
         let asked = own + asked_by(rivals, t);
         if asked == t {

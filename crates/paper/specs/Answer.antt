@@ -8,8 +8,9 @@ use Rattle.paper.specs.Bytes.{Bytes}
 use Rattle.paper.specs.Fields.{passed, refused}
 use Rattle.paper.specs.Tables.{Plan, planOf}
 use Rattle.paper.specs.Refusals.{read, rules, First, WellFormed}
+use Rattle.paper.specs.Windows.{Bounded, setting}
 use Rattle.paper.specs.Sets.{Bounds, inputs, Fits, LeastSet}
-use Rattle.paper.specs.Sweeps.{Bounded, Settles, Leaving}
+use Rattle.paper.specs.Sweeps.{Settles, Leaving}
 use Rattle.paper.specs.Load.{Overloaded}
 use Rattle.paper.specs.Report.{Figures, report, reportLength}
 
@@ -28,7 +29,7 @@ blank room = replicate room 0xFF
 pub record Reported (p : Plan) (f : Figures) : Type 0 where
   pub least : LeastSet p (f .R)
   pub settles : Settles p (f .sweeps) (f .R)
-  pub bounded : (k : ℕ) → k < p .tasks → Bounded p (inputs p (f .R)) k (f .R k) (f .jobs k)
+  pub bounded : (k : ℕ) → k < p .tasks → Bounded (setting p (inputs p (f .R)) k) (f .R k) (f .jobs k)
 
 -- The answer that is due for a plan's bytes, the room for a report, and what the report space then holds. "Order: 1; then
 -- field by field; then 6 to 13 by number"; "Sweeps are 0 except for 0 and 13".

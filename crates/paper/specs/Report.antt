@@ -62,7 +62,7 @@ taskReport p f k =
     (p .task k .C-)
     (f .R k)
     (inputs p (f .R) k .J)
-    (output (p .task k) (inputs p (f .R) k) (f .R k) .J)
+    (output (p .task k .C-) (inputs p (f .R) k) (f .R k) .J)
     (f .jobs k)
 
 -- The record of a plan's path q with its figures.

@@ -85,11 +85,10 @@ pub record Response (p : Plan) (r : Run) (k m ticks : ℕ) : Type 0 where
   pub finished-then : At (finishes p r k) m (activation + ticks)
 
 -- "keeps its model when any n consecutive events lie at least the least and at most the most distance apart"; "Two events
--- not both inside the run are not judged". Events m to m + n are n + 1 consecutive ones.
-abbrev pub Keeps : Run → Stream → (ℕ → ℕ) → Type 0
-Keeps r M counts =
-    (m n a b : ℕ) →
-    At counts m a → At counts (m + n) b → b < r .ticks → (a + d M (suc n) ≤ b) × (b ≤ a + D M (suc n))
+-- not both inside the run are not judged": both fall on ticks below its length. Events m to m + n are n + 1 consecutive ones.
+abbrev pub Keeps : (ticks : ℕ) → Stream → (ℕ → ℕ) → Type 0
+Keeps ticks M counts =
+    (m n a b : ℕ) → At counts m a → At counts (m + n) b → b < ticks → (a + d M (suc n) ≤ b) × (b ≤ a + D M (suc n))
 
 -- Counts begin at 0 and never fall.
 pub record Counts (counts : ℕ → ℕ) : Type 0 where
@@ -99,6 +98,6 @@ pub record Counts (counts : ℕ → ℕ) : Type 0 where
 -- A run of a plan: its outside events keep their period and jitter, and its costs lie between C- and C+.
 pub record RunOf (p : Plan) (r : Run) : Type 0 where
   pub counted : (k P J : ℕ) → k < p .tasks → p .task k .source ≡ outside P J → Counts (r .events k)
-  pub keeps : (k P J : ℕ) → k < p .tasks → p .task k .source ≡ outside P J → Keeps r (record { P = P; J = J }) (r .events k)
+  pub keeps : (k P J : ℕ) → k < p .tasks → p .task k .source ≡ outside P J → Keeps (r .ticks) (record { P = P; J = J }) (r .events k)
   pub least : (k m : ℕ) → k < p .tasks → p .task k .C- ≤ r .cost k m
   pub most : (k m : ℕ) → k < p .tasks → r .cost k m ≤ p .task k .C+

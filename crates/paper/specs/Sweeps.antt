@@ -3,17 +3,12 @@ use Prim.Native.Nat.{ℕ, zero, suc, _<_}
 use mathlib.Core.Path.{_≡_}
 use Rattle.paper.specs.Words.{IsLeast}
 use Rattle.paper.specs.Tables.{Plan}
-use Rattle.paper.specs.Windows.{Inputs, Bound, Within}
+use Rattle.paper.specs.Windows.{Inputs, Bounded, setting}
 use Rattle.paper.specs.Sets.{Bounds, inputs}
-
--- Task k's bound R, worked out from the input streams, and n jobs looked at; all within limits.
-pub record Bounded (p : Plan) (S : Inputs) (k R n : ℕ) : Type 0 where
-  pub bound : Bound p S k R n
-  pub within : Within p S k R
 
 -- A sweep works out the set `new` from the set `old`, and no task leaves the limits.
 abbrev pub Sweep : Plan → Bounds → Bounds → Type 0
-Sweep p old new = (k : ℕ) → k < p .tasks → (n : ℕ) × Bounded p (inputs p old) k (new k) n
+Sweep p old new = (k : ℕ) → k < p .tasks → (n : ℕ) × Bounded (setting p (inputs p old) k) (new k) n
 
 -- The set after m sweeps.
 abbrev pub Swept : Plan → ℕ → Bounds → Type 0
@@ -34,7 +29,7 @@ pub record Settles (p : Plan) (m : ℕ) (R : Bounds) : Type 0 where
 -- input jitter + new R+ - R-.
 pub record Leaves (p : Plan) (S : Inputs) (k : ℕ) : Type 0 where
   pub counted : k < p .tasks
-  pub outside : (R n : ℕ) → Bounded p S k R n → ⊥
+  pub outside : (R n : ℕ) → Bounded (setting p S k) R n → ⊥
 
 -- Task k leaves the limits in sweep number m, counted from 1.
 abbrev pub LeavesIn : Plan → ℕ → ℕ → Type 0

@@ -3,13 +3,14 @@ use Prim.Native.Nat.{ℕ, zero, suc}
 use mathlib.Core.Logic.{_↔_, Iff·rfl, Iff·and}
 use Rattle.paper.specs.Tables.{Plan}
 use Rattle.paper.specs.Sets.{Bounds, inputs, Fits, LeastSet}
-use Rattle.paper.specs.Sweeps.{Bounded, Swept, Unchanged, Settles, Leaves, LeavesIn, Leaving}
+use Rattle.paper.specs.Windows.{Bounded, setting}
+use Rattle.paper.specs.Sweeps.{Swept, Unchanged, Settles, Leaves, LeavesIn, Leaving}
 use Rattle.theory.specs.Least.{least-same}
 use Rattle.theory.specs.Climb
 
 -- Worked out from the set R, task k's new bound is r, within limits.
 abbrev pub Step : Plan → Bounds → ℕ → ℕ → Type 0
-Step p R k r = (n : ℕ) × Bounded p (inputs p R) k r n
+Step p R k r = (n : ℕ) × Bounded (setting p (inputs p R) k) r n
 
 -- What a plan's sweeps work with.
 abbrev pub equations : Plan → Climb.Equations

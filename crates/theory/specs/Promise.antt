@@ -1,0 +1,54 @@
+-- Demands 2 and 3 for a well-formed plan, in the document's words.
+use Prim.Native.Nat.{ℕ, _+_, _-_, _≤_}
+use mathlib.Core.Path.{_≡_, sym, subst}
+use mathlib.Core.Logic.{_⊎_, _↔_}
+use Rattle.paper.specs.Words.{sum}
+use Rattle.paper.specs.Bytes.{Bytes}
+use Rattle.paper.specs.Tables.{Plan, planOf}
+use Rattle.paper.specs.Refusals.{WellFormed}
+use Rattle.paper.specs.Sets.{Bounds, inputs, Fits, LeastSet}
+use Rattle.paper.specs.Sweeps.{Settles, Leaving}
+use Rattle.paper.specs.Running.{Run, RunOf}
+use Rattle.theory.specs.Preemptive.{bounded-says}
+use Rattle.theory.specs.Sound.{Sound}
+use Rattle.theory.specs.Inputs.{inputs-law, period-law, period-some}
+use Rattle.theory.specs.WellFormed.{well-formed→sound}
+use Rattle.theory.specs.Demand2
+use Rattle.theory.specs.Climbs.{proper, climbing}
+use Rattle.theory.specs.Covers.{Covers}
+use Rattle.theory.specs.Demand3.{Kept, demand-3}
+
+-- A consistent set within limits covers the windows of every task of a sound plan.
+pub fits-cover : {p : Plan} {R : Bounds} → Sound p → Fits p R → Covers p (inputs p R) R
+fits-cover {p} {R} sound fits k l =
+    record {
+      input = inputs-law sound R k l;
+      period = subst (λ P. 1 ≤ P) (sym (period-law sound R k l)) (period-some sound k l);
+      n = fits .consistent k l .0;
+      says = bounded-says (proper p sound (inputs p R) k l)
+          (record { bound = fits .consistent k l .1; within = fits .within k l });
+    }
+
+module _ {s : Bytes} (well : WellFormed s) where
+  -- Refused for having no bound exactly when no set satisfying the equations lies within the limits.
+  pub no-bound : ((m : ℕ) × (k : ℕ) × Leaving (planOf s) m k) ↔ ((R : Bounds) → Fits (planOf s) R → ⊥)
+  no-bound = Demand2.no-bound (planOf s) (climbing (planOf s) (well-formed→sound s well))
+
+  -- One of the two always happens: the sweeps settle, or some task leaves the limits.
+  pub decided : ((m : ℕ) × (R : Bounds) × Settles (planOf s) m R) ⊎ ((m : ℕ) × (k : ℕ) × Leaving (planOf s) m k)
+  decided = Demand2.decided (planOf s) (climbing (planOf s) (well-formed→sound s well))
+
+  -- The set in which the sweeps settle is the least consistent set within limits.
+  pub settled-least : {m : ℕ} {R : Bounds} → Settles (planOf s) m R → LeastSet (planOf s) R
+  settled-least = Demand2.settled-least (planOf s) (climbing (planOf s) (well-formed→sound s well))
+
+  -- The number of the first sweep that changes nothing is never above 1 plus the sum over tasks of R+ - C+.
+  pub sweeps-few : {m : ℕ} {R : Bounds} → Settles (planOf s) m R
+      → m ≤ 1 + sum (planOf s .tasks) (λ k. R k - planOf s .task k .C+)
+  sweeps-few = Demand2.sweeps-few (planOf s) (climbing (planOf s) (well-formed→sound s well))
+
+  -- Every consistent set within limits, in particular the reported one, is kept in every run of the plan, of any length.
+  pub kept : {R : Bounds} → Fits (planOf s) R → (r : Run) → RunOf (planOf s) r → Kept (planOf s) (inputs (planOf s) R) R r
+  kept {R} fits r run =
+      let sound = well-formed→sound s well in
+      demand-3 (planOf s) (inputs (planOf s) R) R sound (fits-cover sound fits) r run
