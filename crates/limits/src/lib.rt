@@ -1,4 +1,7 @@
-// The numbers of document 01 that are limits: their one home in code, as specs/Limits.antt of `paper` is in the definitions.
+// Every number of document 01 that is a limit: the one home in code of what specs/Limits.antt of `paper` defines.
+ghost use mathlib.Core.Path.{_≡_};
+ghost use Rattle.paper.specs.Limits.{plan-bytes, most-controllers, most-tasks, most-paths, most-sharing};
+ghost use Rattle.paper.specs.Limits.{most-cost, most-ticks, most-jobs};
 
 // A plan is at most so many bytes long.
 pub const PLAN_BYTES: usize = 4096;
@@ -26,3 +29,15 @@ pub const TICKS: u64 = 1_000_000_000;
 
 // At most so many jobs are looked at.
 pub const JOBS: u64 = 1_024;
+
+// The limits are those of the definitions.
+fn agree()
+    ensures { λ _. do ⌜ (← ⟦PLAN_BYTES⟧ .entry) ≡ plan-bytes ⌝ }
+    ensures { λ _. do ⌜ (← ⟦CONTROLLERS⟧ .entry) ≡ most-controllers ⌝ }
+    ensures { λ _. do ⌜ (← ⟦TASKS⟧ .entry) ≡ most-tasks ⌝ }
+    ensures { λ _. do ⌜ (← ⟦PATHS⟧ .entry) ≡ most-paths ⌝ }
+    ensures { λ _. do ⌜ (← ⟦SHARING⟧ .entry) ≡ most-sharing ⌝ }
+    ensures { λ _. do ⌜ (← ⟦COST⟧ .entry) ≡ most-cost ⌝ }
+    ensures { λ _. do ⌜ (← ⟦TICKS⟧ .entry) ≡ most-ticks ⌝ }
+    ensures { λ _. do ⌜ (← ⟦JOBS⟧ .entry) ≡ most-jobs ⌝ }
+{}

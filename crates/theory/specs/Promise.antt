@@ -9,14 +9,14 @@ use Rattle.paper.specs.Refusals.{WellFormed}
 use Rattle.paper.specs.Sets.{Bounds, inputs, Fits, LeastSet}
 use Rattle.paper.specs.Sweeps.{Settles, Leaving}
 use Rattle.paper.specs.Running.{Run, RunOf}
-use Rattle.theory.specs.Preemptive.{bounded-says}
-use Rattle.theory.specs.Sound.{Sound}
-use Rattle.theory.specs.Inputs.{inputs-law, period-law, period-some}
-use Rattle.theory.specs.WellFormed.{well-formed→sound}
-use Rattle.theory.specs.Demand2
-use Rattle.theory.specs.Climbs.{proper, climbing}
-use Rattle.theory.specs.Covers.{Covers}
-use Rattle.theory.specs.Demand3.{Kept, demand-3}
+use Rattle.theory.specs.Task.Preemptive.{bounded-says}
+use Rattle.theory.specs.Plans.Sound.{Sound}
+use Rattle.theory.specs.Plans.Inputs.{inputs-law, period-law, period-some}
+use Rattle.theory.specs.Plans.WellFormed.{well-formed→sound}
+use Rattle.theory.specs.Sweeps.Demand2
+use Rattle.theory.specs.Sweeps.Climbs.{proper, climbing}
+use Rattle.theory.specs.Runs.Covers.{Covers}
+use Rattle.theory.specs.Runs.Demand3.{Kept, demand-3}
 
 -- A consistent set within limits covers the windows of every task of a sound plan.
 pub fits-cover : {p : Plan} {R : Bounds} → Sound p → Fits p R → Covers p (inputs p R) R

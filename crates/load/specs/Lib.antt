@@ -1,0 +1,4 @@
+-- What the contracts cite besides `paper`.
+pub mod Limbs
+pub mod Fraction
+pub mod Columns

@@ -1,0 +1,6 @@
+-- Numbers: the least and the largest, ranges, sums, tests, least fixed points.
+pub mod Least
+pub mod Ranges
+pub mod Sums
+pub mod Tests
+pub mod FixedPoints

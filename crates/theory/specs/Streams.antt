@@ -1,0 +1,4 @@
+-- Streams: how many events fit into a span, events as counts, and one stream that follows another.
+pub mod Counting
+pub mod Counts
+pub mod Follows

@@ -1,0 +1,83 @@
+-- One stream follows another, event by event, with a least and a most delay: chains of such streams, and their models.
+use Prim.Native.Nat.{ℕ, zero, suc, _+_, _-_, _≤_, _<_}
+use mathlib.Core.Path.{_≡_, refl}
+use native.Mathlib.Decide.{decLe}
+use native.Mathlib.Omega.{arith}
+use Rattle.paper.specs.Streams.{Stream, d, D, delayed}
+use Rattle.paper.specs.Running.{At, Counts, Keeps}
+use Rattle.theory.specs.Streams.Counting.{d-suc}
+use Rattle.theory.specs.Streams.Counts.{counts-rise, no-later, in-order, one-tick, falls}
+
+-- A later stream follows an earlier one, event by event, with a least and a most delay, as far as tick T.
+pub record Follows (T least most : ℕ) (earlier later : ℕ → ℕ) : Type 0 where
+  -- Event m of the later stream, there at tick f, comes at least the least delay after event m of the earlier one.
+  pub began : (m f : ℕ) → m < later (suc f) → (a : ℕ) × At earlier m a × (a + least ≤ f)
+  -- Event m of the later stream is there once the most delay has passed since event m of the earlier one.
+  pub in-time : (m a : ℕ) → At earlier m a → a + most ≤ T → m < later (suc (a + most))
+
+-- A stream that follows one that follows another follows that other, and the delays add up.
+pub follows-on : {T least most least′ most′ : ℕ} {first second third : ℕ → ℕ} → Counts second → Counts third
+    → Follows T least most first second → Follows T least′ most′ second third
+    → Follows T (least + least′) (most + most′) first third
+follows-on {T} {least} {most} {least′} {most′} {first} {second} {third} counted counts f g =
+    record { began = began; in-time = in-time }
+  where
+    -- back from the third stream to the first
+    began : (m c : ℕ) → m < third (suc c) → (a : ℕ) × At first m a × (a + (least + least′) ≤ c)
+    began m c h =
+        let (b, then, passed) = g .began m c h in
+        let (a, now, before) = f .began m b (then .by) in
+        (a, now, omega arith)
+
+    -- on from the first stream to the third
+    in-time : (m a : ℕ) → At first m a → a + (most + most′) ≤ T → m < third (suc (a + (most + most′)))
+    in-time m a now inside =
+        let (b, before, then) = falls counted m (suc (a + most)) (f .in-time m a now (omega arith)) in
+        let rise = counts-rise counts (suc (b + most′)) (suc (a + (most + most′))) (omega arith) in
+        omega (arith, g .in-time m b then (omega arith))
+
+-- Two events, n apart, of a stream that keeps its model, at a and b, are delayed to f and g, in the same order: they keep the
+-- model with the difference of the delays added.
+delayed-apart : (M : Stream) (least most n a b f g : ℕ) → (a + d M (suc n) ≤ b) × (b ≤ a + D M (suc n))
+    → a + least ≤ f → f ≤ a + most → b + least ≤ g → g ≤ b + most → f ≤ g → (n ≡ 0 → g ≤ f)
+    → (f + d (delayed M (most - least)) (suc n) ≤ g) × (g ≤ f + D (delayed M (most - least)) (suc n))
+unfolding D delayed
+delayed-apart M least most zero a b f g keeps f₁ f₂ g₁ g₂ order same =
+    (omega (arith, d-suc (delayed M (most - least)) 0), omega (arith, same refl))
+delayed-apart M least most (suc n) a b f g keeps f₁ f₂ g₁ g₂ order same =
+    (omega (arith, d-suc M (suc n), d-suc (delayed M (most - least)) (suc n)), omega arith)
+
+module _ {T least most : ℕ} {earlier later : ℕ → ℕ} (counted : Counts later) (follows : Follows T least most earlier later) where
+  -- Up to tick T, an event of the later stream falls at most the most delay after that of the earlier one.
+  not-late : (m a f : ℕ) → At earlier m a → At later m f → f ≤ T → f ≤ a + most
+  not-late m a f now then inside =
+      elim (decLe f (a + most)) [
+        | yes l ↦ l
+        | no l ↦
+            let due = follows .in-time m a now (omega arith) in
+            no-later counted f (a + most) (omega arith)
+      ]
+
+  -- An event is delayed by t: t is at least the least delay, and up to tick T at most the most delay.
+  pub delay-between : Counts earlier → (m a t : ℕ) → At earlier m a → At later m (a + t)
+      → (least ≤ t) × (a + t ≤ T → t ≤ most)
+  delay-between counts m a t now then =
+      let (b, began, passed) = follows .began m (a + t) (then .by) in
+      let same = one-tick counts m a b now began in
+      (omega arith, λ inside. omega (arith, not-late m a (a + t) now then inside))
+
+  -- If the earlier stream keeps its model as far as ticks below T, the later one keeps, a tick further on, the model with the
+  -- difference of the delays added.
+  pub delayed-keeps : (M : Stream) → 1 ≤ least → Keeps T M earlier
+      → Keeps (suc T) (delayed M (most - least)) later
+  delayed-keeps M some keeps m n f g first last inside =
+      let order = in-order counted m (m + n) f g (omega arith) first last in
+      let (a, now, before) = follows .began m f (first .by) in
+      let (b, then, passed) = follows .began (m + n) g (last .by) in
+      delayed-apart M least most n a b f g (keeps m n a b now then (omega arith))
+      before
+      (not-late m a f now first (omega arith))
+      passed
+      (not-late (m + n) b g then last (omega arith))
+      order
+      (λ e. in-order counted (m + n) m g f (omega arith) last first)
