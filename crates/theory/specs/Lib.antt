@@ -7,4 +7,7 @@ pub mod Sweeps
 pub mod Runs
 pub mod Promise
 pub mod Outcomes
+pub mod ReportLength
+pub mod Twin
 pub mod Case
+pub mod Starred

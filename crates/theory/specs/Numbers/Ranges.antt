@@ -10,7 +10,7 @@ abbrev pub Every : ℕ → (ℕ → Type 0) → Type 0
 Every n A = (q : ℕ) → 1 ≤ q → q ≤ n → A q
 
 -- What each number from 1 to n has, and n + 1 has too, each from 1 to n + 1 has.
-every-next : {A : ℕ → Type 0} (n : ℕ) → Every n A → A (suc n) → Every (suc n) A
+pub every-next : {A : ℕ → Type 0} (n : ℕ) → Every n A → A (suc n) → Every (suc n) A
 every-next {A} n each next q a l = elim (decLe q n) [ yes e ↦ each q a e | no e ↦ subst A (omega arith) next ]
 
 -- Where a property can be decided of each number from 1 on, it can be decided of all from 1 to n together.

@@ -2,7 +2,8 @@
 use Prim.Native.Nat.{ℕ, zero, suc, _<_}
 use mathlib.Core.Path.{_≡_, refl}
 use mathlib.Core.Logic.{_⊎_, inl, inr, ⊎-elim}
-use mathlib.Core.Bool.{Bool, true, false, false≢true, _&&_, _||_}
+use mathlib.Core.Bool.{Bool, true, false, false≢true, _&&_, _||_, or-true}
+use native.Mathlib.Decide.{ℕ-discrete}
 use native.Mathlib.Omega.{arith}
 use Rattle.paper.specs.Words.{any}
 
@@ -30,3 +31,13 @@ some-passes (suc n) f e =
     (λ h. let (k, l, passes) = some-passes n f h in (k, omega arith, passes))
     (λ h. (n, omega arith, h))
     (either (any n f) (f n) e)
+
+-- Where some one of the numbers below n passes a test, any does.
+pub passes-any : (n : ℕ) (f : ℕ → Bool) (k : ℕ) → k < n → f k ≡ true → any n f ≡ true
+unfolding any
+passes-any zero f k h e = absurd (omega arith)
+passes-any (suc n) f k h e =
+    elim (ℕ-discrete k n) [
+      | yes last ↦ rw (← last, e, or-true)
+      | no other ↦ rw (passes-any n f k (omega arith) e)
+    ]

@@ -172,11 +172,15 @@ preemptive-laws =
       jitters-decided = λ i R. both-decided (i .0 .input .J) (output (i .0 .C-) (i .0 .input) R .J) most-ticks;
     }
 
--- A task's bound is one number, and so are the jobs looked at.
+-- A task's bound is one number, and so are the jobs looked at,
+pub bound-one : {k : Setting} {R R′ n n′ : ℕ} → Bound k R n → Bound k R′ n′ → (R ≡ R′) × (n ≡ n′)
+bound-one {k} {R} {n = n} {n′} b b′ =
+    let e : n ≡ n′ = least-one (b .jobs) (b′ .jobs) in
+    (largest-one (subst (λ m. IsLargest (Delay k m) R) e (b .largest)) (b′ .largest), e)
+
+-- within limits too.
 pub bounded-one : {k : Setting} {R R′ n n′ : ℕ} → Bounded k R n → Bounded k R′ n′ → (R ≡ R′) × (n ≡ n′)
-bounded-one {k} {R} {n = n} {n′} b b′ =
-    let e : n ≡ n′ = least-one (b .bound .jobs) (b′ .bound .jobs) in
-    (largest-one (subst (λ m. IsLargest (Delay k m) R) e (b .bound .largest)) (b′ .bound .largest), e)
+bounded-one b b′ = bound-one (b .bound) (b′ .bound)
 
 -- For a milder setting a task has a bound within limits where it has for the other, no larger and with no more jobs looked
 -- at.
