@@ -1,12 +1,12 @@
 -- Counting a stream's events: the one law that ties most events to least distance, and what grows with what. Whoever cites
 -- these laws doesn't depend on the formulas.
-use Prim.Native.Nat.{ℕ, zero, suc, _+_, _-_, _*_, _≤_, _<_}
+use Prim.Native.Nat.{ℕ, zero, suc, _+_, _-_, _*_, _/_, _≤_, _<_}
 use mathlib.Core.Path.{_≡_, refl}
 use mathlib.Core.Logic.{_↔_}
 use native.Mathlib.Nat.{le-refl, zero-max, suc-sub-suc, sub-zero, mul-le-mul-right, zero-lt-suc, div-zero, div-mul-le-self}
-use native.Mathlib.Nat.{le-div-iff-mul-le}
+use native.Mathlib.Nat.{le-div-iff-mul-le, div-lt-iff-lt-mul, mul-le-mul-left}
 use native.Mathlib.Omega.{arith}
-use Rattle.paper.specs.Tables.{Task, Plan}
+use Rattle.paper.specs.Tables.{Plan}
 use Rattle.paper.specs.Streams.{Stream, d, D, roundedUp, mostEvents, delayed}
 use Rattle.paper.specs.Windows.{Inputs, output}
 
@@ -87,3 +87,12 @@ unfolding mostEvents
 mostEvents-grows M M′ zero t′ m h = omega arith
 mostEvents-grows M M′ (suc t) zero m h = absurd (omega arith)
 mostEvents-grows M M′ (suc t) (suc t′) m h = rw (m .period) (roundedUp-grows _ _ _ (omega arith))
+
+-- A stream whose period is not 0 has at most one event for each tick of the span and of the jitter.
+pub few : (M : Stream) (t : ℕ) → 1 ≤ M .P → mostEvents M t ≤ t + M .J
+unfolding mostEvents roundedUp
+few M zero some = omega arith
+few M (suc t) some =
+    let less : (suc t + M .J + (M .P - 1)) / M .P < suc (suc t + M .J) =
+    div-lt-iff-lt-mul {y = suc (suc t + M .J)} some .1 (omega (arith, mul-le-mul-left (suc t + M .J) some)) in
+    omega arith
