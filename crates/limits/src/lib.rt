@@ -18,6 +18,9 @@ pub const PATHS: usize = 32;
 // and so many tasks on one controller.
 pub const SHARING: usize = 16;
 
+// A report is at most so many bytes long: its head, a record for each task and one for each path.
+pub const REPORT_BYTES: usize = 14 + 22 * TASKS + 29 * PATHS;
+
 // A path has at most so many steps.
 pub const STEPS: usize = 16;
 

@@ -60,14 +60,14 @@ unfolding inputs
 inputs-same p R R′ = inputsBack-same p R R′ (p .tasks)
 
 -- A sum along a path is the same where its parts are.
-along-same : (path : List ℕ) (f g : ℕ → ℕ) → ((i : ℕ) → i < length path → f (getD path i 0) ≡ g (getD path i 0))
+pub along-same : (path : List ℕ) (f g : ℕ → ℕ) → ((i : ℕ) → i < length path → f (getD path i 0) ≡ g (getD path i 0))
     → along path f ≡ along path g
 unfolding along
 along-same [] f g same = refl
 along-same (k ∷ path) f g same = rw (same 0 (omega arith), along-same path f g (λ i h. same (suc i) (omega arith)))
 
 -- A row of records is the same where each record is.
-each-same : (n : ℕ) (f g : ℕ → Bytes) → ((k : ℕ) → k < n → f k ≡ g k) → each n f ≡ each n g
+pub each-same : (n : ℕ) (f g : ℕ → Bytes) → ((k : ℕ) → k < n → f k ≡ g k) → each n f ≡ each n g
 unfolding each
 each-same zero f g same = refl
 each-same (suc n) f g same = rw (same n (omega arith), each-same n f g (λ k h. same k (omega arith)))

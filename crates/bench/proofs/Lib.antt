@@ -1,0 +1,3 @@
+mod Parts
+mod Tabling
+mod Whole

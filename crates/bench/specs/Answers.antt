@@ -1,0 +1,18 @@
+-- The answer's number, place and sweep number, as document 01 has them, for each case of the code's answer.
+use Prim.Native.Nat.{ℕ}
+use Rattle.paper.specs.Answer as Paper
+use Rattle.bench.specs.declared.answers.Numbers.{Numbers}
+use Rattle.bench.specs.declared.answers.Answer.{Answer}
+use Rattle.bench.specs.declared.answers.Answer.the-variants.{Accepted, Refused, Short, Overloaded, Unbounded}
+
+-- Number, place and sweep number.
+abbrev pub said : Answer → Paper.Answer
+said (Accepted length sweep) = record { number = 0; place = length; sweep = sweep }
+said (Refused number place) = record { number = number; place = place; sweep = 0 }
+said (Short needed) = record { number = 11; place = needed; sweep = 0 }
+said (Overloaded controller) = record { number = 12; place = controller .0; sweep = 0 }
+said (Unbounded task sweep) = record { number = 13; place = task .0; sweep = sweep }
+
+-- The code's three numbers as document 01's.
+abbrev pub numbered : Numbers → Paper.Answer
+numbered n = record { number = n .number; place = n .place; sweep = n .sweep }

@@ -1,0 +1,4 @@
+pub mod Answers
+pub mod Holds
+pub mod Sums
+pub mod Tabled

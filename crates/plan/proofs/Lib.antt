@@ -1,0 +1,11 @@
+-- Laws that several functions' proofs cite; the public ones serve the crates above.
+mod Begin
+mod Chain
+pub mod Columns
+mod Decide
+mod Deciding
+mod Lowest
+mod Numbers
+pub mod Said
+pub mod Telling
+pub mod WhenRead
