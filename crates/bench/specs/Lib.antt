@@ -2,3 +2,9 @@ pub mod Answers
 pub mod Holds
 pub mod Sums
 pub mod Tabled
+pub mod Unique
+pub mod Figures
+pub mod Numbers
+pub mod Exactly
+pub mod Promise
+pub mod Shams

@@ -6,11 +6,10 @@ ghost use Rattle.paper.specs.Limits.{most-tasks, most-paths};
 ghost use Rattle.paper.specs.Tables.{planOf};
 ghost use Rattle.paper.specs.Refusals.{WellFormed};
 ghost use Rattle.paper.specs.Report.{reportLength};
-ghost use Rattle.paper.specs.Answer.{Due};
 ghost use Rattle.paper.specs.Load as Load;
 ghost use Rattle.sweep.specs.Columns.{perTask};
 ghost use Rattle.sweep.specs.Ends.{Settled};
-ghost use Rattle.bench.specs.Answers.{said};
+ghost use Rattle.bench.specs.Answers.{Answers};
 ghost use Rattle.bench.specs.Tabled.{Tabled, Weighed};
 use crate::answers::Answer;
 use crate::figures::columns_of;
@@ -49,7 +48,7 @@ fn accept(
     sweep: u64,
 ) -> Answer
     requires { ⌜ Weighed (now s) (length (now report)) t paths × Settled (planOf (now s)) sweep outcome ⌝ }
-    ensures { λ r. ⌜ Due (now (s .entry)) (length (now (report .entry))) (said r) (now (report .exit)) ⌝ }
+    ensures { λ r. ⌜ Answers (now (s .entry)) (length (now (report .entry))) r (now (report .exit)) ⌝ }
 {
     let length = report_bytes(t.count, paths.count);
     let columns = columns_of(s, t, paths, outcome, sweep);
@@ -60,7 +59,7 @@ fn accept(
 // 13, or the report: the plan is well-formed, its report has room, and no load is above one.
 fn bound(s: &[u8], report: &mut [u8], t: Tasks, paths: Paths, period: [u64; TASKS]) -> Answer
     requires { ⌜ Weighed (now s) (length (now report)) t paths × (period ≡ perTask (planOf (now s)) (Load.period (planOf (now s)))) ⌝ }
-    ensures { λ r. ⌜ Due (now (s .entry)) (length (now (report .entry))) (said r) (now (report .exit)) ⌝ }
+    ensures { λ r. ⌜ Answers (now (s .entry)) (length (now (report .entry))) r (now (report .exit)) ⌝ }
 {
     let outcome = settle(t, period);
     let ended = outcome.ended;
@@ -73,7 +72,7 @@ fn bound(s: &[u8], report: &mut [u8], t: Tasks, paths: Paths, period: [u64; TASK
 // 12 and what comes after it: the plan is well-formed, and its report has room.
 fn weigh(s: &[u8], report: &mut [u8], t: Tasks, paths: Paths) -> Answer
     requires { ⌜ Tabled (now s) t paths × (reportLength (planOf (now s)) ≤ length (now report)) ⌝ }
-    ensures { λ r. ⌜ Due (now (s .entry)) (length (now (report .entry))) (said r) (now (report .exit)) ⌝ }
+    ensures { λ r. ⌜ Answers (now (s .entry)) (length (now (report .entry))) r (now (report .exit)) ⌝ }
 {
     let period = periods(t);
     let controllers = controllers_of(s) as usize;
@@ -87,7 +86,7 @@ fn weigh(s: &[u8], report: &mut [u8], t: Tasks, paths: Paths) -> Answer
 // 11 and what comes after it: the plan is well-formed.
 fn measure(s: &[u8], report: &mut [u8]) -> Answer
     requires { ⌜ WellFormed (now s) ⌝ }
-    ensures { λ r. ⌜ Due (now (s .entry)) (length (now (report .entry))) (said r) (now (report .exit)) ⌝ }
+    ensures { λ r. ⌜ Answers (now (s .entry)) (length (now (report .entry))) r (now (report .exit)) ⌝ }
 {
     let t = task_columns(s);
     let paths = path_columns(s);
@@ -101,7 +100,7 @@ fn measure(s: &[u8], report: &mut [u8]) -> Answer
 
 // The answer to a plan, with its report or FF in the report space.
 pub fn answer(plan: &[u8], report: &mut [u8]) -> Answer
-    ensures { λ r. ⌜ Due (now (plan .entry)) (length (now (report .entry))) (said r) (now (report .exit)) ⌝ }
+    ensures { λ r. ⌜ Answers (now (plan .entry)) (length (now (report .entry))) r (now (report .exit)) ⌝ }
 {
     let judged = judge(plan);
     match judged {

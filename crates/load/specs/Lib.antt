@@ -2,3 +2,4 @@
 pub mod Limbs
 pub mod Fraction
 pub mod Columns
+pub mod Unique

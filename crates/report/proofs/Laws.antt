@@ -10,14 +10,8 @@ use lib.Seq.{sets, length-sets, sets-eq, set-comm, take-all, take-at, drop-drop}
 use borrow.Rule.Slice.PartMut.{midOf, postOf, putMid}
 use Rattle.paper.specs.Bytes.{Bytes, bytes}
 use Rattle.paper.specs.Report.{each}
+use Rattle.theory.specs.ReportLength.{bytes-length, each-length}
 use Rattle.report.specs.Wrote.{Wrote}
-
--- A number in `width` bytes is `width` bytes long.
-pub length-bytes : (width n : ℕ) → length (bytes width n) ≡ width
-unfolding bytes
-length-bytes zero n = refl
-length-bytes (suc width) n =
-    length-append (bytes width (n / 256)) (n % 256 ∷ []) ∙ ap (λ k. k + 1) (length-bytes width (n / 256)) ∙ add-one width
 
 -- What does not fit `width` bytes is left out.
 pub bytes-over : (width n : ℕ) → bytes width (256 ^ width + n) ≡ bytes width n
@@ -50,7 +44,7 @@ unfolding bytes
 last-byte l at zero n h = absurd (omega arith)
 last-byte l at (suc width) n h =
     let front = bytes width (n / 256) in
-    let e : length front ≡ width = length-bytes width (n / 256) in
+    let e : length front ≡ width = bytes-length width (n / 256) in
     let past : at + length front ≤ at + width = omega (arith, e) in
     rw (sub-one (suc width))
     (sets-past l at front (at + width) (n % 256) past
@@ -97,13 +91,6 @@ lent at k l ys m all room part =
           ∙ sym (sets-eq ys l at fits′);
     }
 
--- Records of one length, one after the other.
-pub length-each : (long n : ℕ) (f : ℕ → Bytes) → ((k : ℕ) → length (f k) ≡ long) → length (each n f) ≡ long * n
-unfolding each
-length-each long zero f h = sym (mul-zero long)
-length-each long (suc n) f h =
-    length-append (each n f) (f n) ∙ ap₂ (λ a b. a + b) (length-each long n f h) (h n) ∙ sym (mul-suc long n)
-
 -- Bytes written into the part that begins where those at the front end make these longer.
 pub rest-more : {l l′ m xs ys : Bytes} (at : ℕ) → Wrote l 0 xs l′ → length xs ≡ at → at + length ys ≤ length l′
     → Wrote (midOf at (length l′ - at) l′) 0 ys m → Wrote l 0 (xs ++ ys) (putMid at (length l′ - at) l′ m)
@@ -119,7 +106,7 @@ pub record-more : (long n : ℕ) (f : ℕ → Bytes) (l l′ m : Bytes) → ((k 
     → Wrote l 0 (each (n + 1) f) (putMid (long * n) (length l′ - long * n) l′ m)
 unfolding each
 record-more long n f l l′ m h front room part =
-    rw (add-one n) (rest-more (long * n) front (length-each long n f h) (omega (arith, h n)) part)
+    rw (add-one n) (rest-more (long * n) front (each-length long n f h) (omega (arith, h n)) part)
 
 -- Once the front is written and FF fills what is left, the space holds the front and FF.
 pub filled : {l l′ xs : Bytes} (end : ℕ) → Wrote l 0 xs l′ → length xs ≡ end → end ≤ length l

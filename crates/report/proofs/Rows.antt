@@ -1,23 +1,18 @@
--- How long the head and the rows of a report are. Assumes nothing.
+-- How long the rows of a report are. Assumes nothing.
 use Prim.Native.Nat.{ℕ}
 use mathlib.Core.Path.{_≡_, refl}
 use mathlib.Core.List.{List}
 use lib.ListN.{length}
 use Rattle.paper.specs.Bytes.{bytes, difference}
-use Rattle.paper.specs.Report.{recordOf, headRecord, taskRecord, pathRecord}
+use Rattle.paper.specs.Report.{recordOf, taskRecord, pathRecord}
 use Rattle.report.specs.Figured.{taskRow, pathRow}
 
--- The head is 14 bytes long,
-pub head-long : (sweeps tasks paths : ℕ) → length (headRecord sweeps tasks paths) ≡ 14
-unfolding headRecord recordOf bytes
-head-long sweeps tasks paths = refl
-
--- a task's row 22,
+-- A task's row is 22 bytes long,
 pub task-long : (least bound input output jobs : List ℕ) (k : ℕ) → length (taskRow least bound input output jobs k) ≡ 22
 unfolding taskRow taskRecord recordOf bytes
 task-long least bound input output jobs k = refl
 
--- and a path's row 29.
+-- a path's 29.
 pub path-long : (deadline best worst : List ℕ) (q : ℕ) → length (pathRow deadline best worst q) ≡ 29
 unfolding pathRow pathRecord recordOf bytes difference
 path-long deadline best worst q = refl

@@ -9,7 +9,7 @@ use Rattle.paper.specs.Report.{Figures, recordOf, headRecord, taskRecord, pathR
 use Rattle.paper.specs.Report.{taskReport, pathReport, each, report, reportLength}
 
 -- A number takes its width.
-bytes-length : (width n : ℕ) → length (bytes width n) ≡ width
+pub bytes-length : (width n : ℕ) → length (bytes width n) ≡ width
 unfolding bytes
 bytes-length zero n = refl
 bytes-length (suc width) n = simp (length-append, bytes-length width) (omega arith)
@@ -20,18 +20,23 @@ unfolding recordOf
 record-length tag value = simp (length-append, bytes-length) (omega arith)
 
 -- Records of one length, one after the other.
-each-length : (c n : ℕ) (f : ℕ → Bytes) → ((k : ℕ) → length (f k) ≡ c) → length (each n f) ≡ c * n
+pub each-length : (c n : ℕ) (f : ℕ → Bytes) → ((k : ℕ) → length (f k) ≡ c) → length (each n f) ≡ c * n
 unfolding each
 each-length c zero f same = omega arith
 each-length c (suc n) f same = simp length-append (omega (arith, each-length c n f same, same n))
 
--- A task's record is 22 bytes long,
-task-length : (p : Plan) (f : Figures) (k : ℕ) → length (taskReport p f k) ≡ 22
+-- The head is 14 bytes long,
+pub head-length : (sweeps tasks paths : ℕ) → length (headRecord sweeps tasks paths) ≡ 14
+unfolding headRecord
+head-length sweeps tasks paths = simp (record-length, length-append, bytes-length)
+
+-- a task's record 22,
+pub task-length : (p : Plan) (f : Figures) (k : ℕ) → length (taskReport p f k) ≡ 22
 unfolding taskReport taskRecord
 task-length p f k = simp (record-length, length-append, bytes-length)
 
 -- a path's 29,
-path-length : (p : Plan) (f : Figures) (q : ℕ) → length (pathReport p f q) ≡ 29
+pub path-length : (p : Plan) (f : Figures) (q : ℕ) → length (pathReport p f q) ≡ 29
 unfolding pathReport pathRecord difference
 path-length p f q = simp (record-length, length-append, bytes-length)
 

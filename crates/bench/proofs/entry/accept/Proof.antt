@@ -34,7 +34,7 @@ returns c =
       whole (sound (w .tabled)) (ranged (w .tabled)) h,
       whole-long (sound (w .tabled)) (ranged (w .tabled)) h,
     )
-    (accepted (w .tabled .well) (w .enough) (w .light) (settled .reported))
+    (record { cased = tt; due = accepted (w .tabled .well) (w .enough) (w .light) (settled .reported) })
 
 pub accept-spec : {M : Type 1} → statement M
 accept-spec =

@@ -30,7 +30,7 @@ returns-2 c =
     let left = subst (λ (e : Ended). Says (planOf (a .args .s .now)) (o .result) e) (c .before .before .before .before .before .ended2 .given .1)
     (o .ensures _ (prepared (w .tabled) (pre .1))) in
     let r = c .before .before .refuse .ensures in
-    rw (r .0, r .1) (unbounded (w .tabled .well) (w .enough) (w .light) (no-bound (w .tabled .well) .0 (_, _, left .leaving)) (left .leaving))
+    rw (r .0, r .1) (record { cased = tt; due = unbounded (w .tabled .well) (w .enough) (w .light) (no-bound (w .tabled .well) .0 (_, _, left .leaving)) (left .leaving) })
 
 returns : tie.Need-returns
 returns c = search needs

@@ -26,7 +26,7 @@ returns c =
     let so = c .before .before .before .before .before .before in
     let r = c .before .before .refuse .ensures in
     let is = c .before .before .before .before .before .report-bytes .ensures ∙ long (tabled so) in
-    rw (r .0, r .1, is) (short (tabled so .well) (rw is at (c .before .before .before .before .if1 .taken)))
+    rw (r .0, r .1, is) (record { cased = tt; due = short (tabled so .well) (rw is at (c .before .before .before .before .if1 .taken)) })
 
 returns-2 : tie.Need-returns-2
 returns-2 c = search needs

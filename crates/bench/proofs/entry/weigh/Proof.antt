@@ -48,7 +48,7 @@ returns c =
     let lowest = subst (λ (o : Overload). Says (planOf (a .args .s .now)) o) (c .before .before .before .before .before .load .given .1)
     (now′ .lowest-overloaded .ensures _ (said-loads now′)) in
     let r = c .before .before .refuse .ensures in
-    rw (r .0, r .1) (overload (tabled .well) (a .pre .1) lowest)
+    rw (r .0, r .1) (record { cased = tt; due = overload (tabled .well) (a .pre .1) lowest })
 
 returns-2 : tie.Need-returns-2
 returns-2 c = search needs

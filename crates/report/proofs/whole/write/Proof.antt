@@ -11,8 +11,9 @@ use Rattle.paper.specs.Answer.{blank}
 use Rattle.report.specs.declared.whole.Columns.{Columns}
 use Rattle.report.specs.Figured.{taskRow, pathRow, wholeOf, longOf}
 use Rattle.report.specs.Wrote.{Wrote}
-use Rattle.report.proofs.Laws.{length-each, rest-more, filled}
-use Rattle.report.proofs.Rows.{head-long, task-long, path-long}
+use Rattle.theory.specs.ReportLength.{each-length, head-length}
+use Rattle.report.proofs.Laws.{rest-more, filled}
+use Rattle.report.proofs.Rows.{task-long, path-long}
 use Rattle.report.proofs.whole.write.Statement.{statement}
 use Rattle.report.proofs.whole.write.Tie as tie
 
@@ -30,11 +31,11 @@ written c l l′ m n room same head tasks same′ paths =
     let task = taskRow (c .least) (c .bound) (c .input) (c .output) (c .jobs) in
     let path = pathRow (c .deadline) (c .best) (c .worst) in
     let h = headRecord (c .sweeps) (c .tasks) (c .paths) in
-    let h-long : length h ≡ 14 = head-long (c .sweeps) (c .tasks) (c .paths) in
+    let h-long : length h ≡ 14 = head-length (c .sweeps) (c .tasks) (c .paths) in
     let t-long : length (each (c .tasks) task) ≡ 22 * c .tasks =
-    length-each 22 (c .tasks) task (task-long (c .least) (c .bound) (c .input) (c .output) (c .jobs)) in
+    each-length 22 (c .tasks) task (task-long (c .least) (c .bound) (c .input) (c .output) (c .jobs)) in
     let p-long : length (each (c .paths) path) ≡ 29 * c .paths =
-    length-each 29 (c .paths) path (path-long (c .deadline) (c .best) (c .worst)) in
+    each-length 29 (c .paths) path (path-long (c .deadline) (c .best) (c .worst)) in
     let f-long : length (h ++ each (c .tasks) task) ≡ 14 + 22 * c .tasks =
     length-append h (each (c .tasks) task) ∙ ap₂ (λ a b. a + b) h-long t-long in
     let w-long : length (h ++ each (c .tasks) task ++ each (c .paths) path) ≡ longOf c =
