@@ -96,3 +96,14 @@ few M (suc t) some =
     let less : (suc t + M .J + (M .P - 1)) / M .P < suc (suc t + M .J) =
     div-lt-iff-lt-mul {y = suc (suc t + M .J)} some .1 (omega (arith, mul-le-mul-left (suc t + M .J) some)) in
     omega arith
+
+-- Events a period apart, each late by no more than the jitter, lie no farther apart than D says.
+pub on-a-grid : (M : Stream) (late : ℕ → ℕ) → ((i : ℕ) → late i ≤ M .J) → (m n : ℕ)
+    → (m + suc n) * M .P + late (m + suc n) ≤ m * M .P + late m + D M (suc (suc n))
+unfolding D
+on-a-grid M late l m n = omega (arith, l (m + suc n))
+
+-- That distance is reached: the first of them on time, the last as late as the jitter allows.
+pub D-reached : (M : Stream) (m n : ℕ) → (m + suc n) * M .P + M .J ≡ m * M .P + 0 + D M (suc (suc n))
+unfolding D
+D-reached M m n = omega arith
