@@ -4,7 +4,7 @@ use mathlib.Core.Path.{_≡_}
 use mathlib.Core.Bool.{Bool, cond, not, _&&_}
 use lib.Dec.{ltb, eqb}
 use Rattle.paper.specs.Words.{sum, any}
-use Rattle.paper.specs.Tables.{Source, outside, fed, Task, Plan}
+use Rattle.paper.specs.Tables.{Source, outside, fed, Plan}
 use Rattle.paper.specs.Streams.{Stream, d, D}
 use Rattle.paper.specs.Windows.{rival}
 

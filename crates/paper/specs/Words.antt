@@ -1,6 +1,6 @@
 -- Words that every section uses: the least, the largest, sums and counts.
 use Prim.Native.Nat.{ℕ, zero, suc, _+_, _*_, _≤_}
-use mathlib.Core.Bool.{Bool, true, false, cond, _&&_, _||_}
+use mathlib.Core.Bool.{Bool, false, cond, _&&_, _||_}
 use lib.Dec.{leb}
 
 -- The least number with a property: it has it, and whichever has it is no smaller.

@@ -1,15 +1,14 @@
 -- The tests on columns that tell a plan's tasks decide refusals 7 to 10.
 use Prim.Native.Nat.{ℕ, zero, suc, _+_, _<_}
-use native.Mathlib.Decide.{ℕ-discrete}
 use native.Mathlib.Omega.{arith}
 use mathlib.Core.Path.{_≡_, refl, sym, ap, _∙_}
 use mathlib.Core.Logic.{inl, inr}
 use mathlib.Core.List.{List}
-use mathlib.Core.Bool.{Bool, true, false, false≢true, cond, not, _&&_, _||_}
+use mathlib.Core.Bool.{true, false≢true, cond, not, _&&_}
 use lib.Dec.{eqb}
 use lib.ListN.{length, getD}
 use borrow.Author.Tests.{eq-eqb, ne-eqb, eqb-true, lt-ltb, ltb-true, not-true}
-use Rattle.paper.specs.Words.{any, count}
+use Rattle.paper.specs.Words.{count}
 use Rattle.paper.specs.Limits.{most-sharing}
 use Rattle.paper.specs.Tables.{Source, outside, fed, Plan}
 use Rattle.paper.specs.Refusals.{Sharing, feeder, back, FromOutside, Endless, Broken, Crowded}
@@ -19,7 +18,7 @@ use Rattle.theory.specs.Plans.Chains.{Feeders, back-below, endless-decided}
 use Rattle.plan.specs.Tables.{numberOf, flagOf, isFed, feederOf, Told}
 use Rattle.plan.specs.Faults.{shares, backFrom, endless, broken, crowded}
 use Rattle.plan.specs.declared.tasks.Tasks.{Tasks}
-use Rattle.plan.proofs.Decide.{Decides}
+use Rattle.plan.proofs.Outcome.{Decides}
 
 -- One step back, by what columns tell of a source.
 one-back : (source : Source) (k : ℕ) → cond (isFed source) (feederOf source) k ≡ feeder source k

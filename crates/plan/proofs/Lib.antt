@@ -2,10 +2,10 @@
 mod Begin
 mod Chain
 pub mod Columns
-mod Decide
 mod Deciding
 mod Lowest
 mod Numbers
+mod Outcome
 pub mod Said
 pub mod Telling
 pub mod WhenRead

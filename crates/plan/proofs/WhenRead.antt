@@ -14,7 +14,7 @@ use Rattle.plan.specs.Judged.{Judges, unsound, sound}
 use Rattle.plan.specs.Tables.{numberOf, flagOf, feederOf, taskColumns, pathColumns}
 use Rattle.plan.specs.Faults.{OfTasks, partOf, Parts, lowest, shares, endless, broken, crowded}
 use Rattle.plan.proofs.Columns.{column-at}
-use Rattle.plan.proofs.Decide.{Outcome, outcome-more, outcome-last}
+use Rattle.plan.proofs.Outcome.{Outcome, outcome-more, outcome-last}
 use Rattle.plan.proofs.Deciding.{decides-7, decides-8, decides-9, decides-10}
 use Rattle.plan.proofs.Telling.{told}
 

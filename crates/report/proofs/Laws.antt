@@ -2,10 +2,10 @@
 use Prim.Native.Nat.{ℕ, zero, suc, _+_, _-_, _≤_, _<_, _*_, _/_, _%_, _^_}
 use mathlib.Core.Path.{_≡_, refl, sym, ap, ap₂, _∙_}
 use mathlib.Core.List.{[], _∷_, _++_, append-nil, append-assoc}
-use native.Mathlib.Nat.{add-suc, suc-add, add-zero, zero-add, add-comm, pow-succ', mul-zero, mul-suc, add-mul-div-left, add-mul-mod-self-left}
+use native.Mathlib.Nat.{add-suc, suc-add, add-zero, zero-add, add-comm, pow-succ', add-mul-div-left, add-mul-mod-self-left}
 use native.Mathlib.Numerals.{add-one, sub-one}
 use native.Mathlib.Omega.{arith}
-use lib.ListN.{length, take, drop, set, replicate, length-append, length-drop, drop-of-length-le}
+use lib.ListN.{length, take, drop, set, replicate, length-drop, drop-of-length-le}
 use lib.Seq.{sets, length-sets, sets-eq, set-comm, take-all, take-at, drop-drop}
 use borrow.Rule.Slice.PartMut.{midOf, postOf, putMid}
 use Rattle.paper.specs.Bytes.{Bytes, bytes}

@@ -1,6 +1,6 @@
 -- Demands 2 and 3 for a well-formed plan, in the document's words.
 use Prim.Native.Nat.{ℕ, _+_, _-_, _≤_}
-use mathlib.Core.Path.{_≡_, sym, subst}
+use mathlib.Core.Path.{sym, subst}
 use mathlib.Core.Logic.{_⊎_, _↔_}
 use Rattle.paper.specs.Words.{sum}
 use Rattle.paper.specs.Bytes.{Bytes}

@@ -6,7 +6,7 @@ use mathlib.Core.List.{List, _∷_}
 use mathlib.Core.Bool.{Bool, true, false, cond, and-eq-true-iff}
 use lib.Dec.{leb}
 use lib.ListN.{getD, replicate}
-use borrow.Author.Tests.{leb-true, le-leb}
+use borrow.Author.Tests.{leb-true}
 use native.Mathlib.Nat.{zero-add, add-zero}
 use native.Mathlib.Omega.{arith}
 use Rattle.paper.specs.Words.{within}
@@ -22,16 +22,6 @@ pub passed-both : (a b : Judged) → (a andThen b) ≡ passed → (a ≡ passed)
 unfolding _andThen_
 passed-both passed b e = (refl, e)
 passed-both (refused n p) b e = absurd (refused-not-passed refl e)
-
--- After a judge that passes, the later one decides.
-pub passed-then : (a b : Judged) → a ≡ passed → (a andThen b) ≡ b
-unfolding _andThen_
-passed-then a b e = rw e
-
--- The first refusal stands, whatever the later judge says.
-pub refused-then : (a b : Judged) (n p : ℕ) → a ≡ refused n p → (a andThen b) ≡ refused n p
-unfolding _andThen_
-refused-then a b n p e = rw e
 
 -- Where two judges refuse together, the first refuses, or it passes and the later one refuses.
 pub then-refused : (a b : Judged) (n p : ℕ) → (a andThen b) ≡ refused n p
@@ -58,15 +48,11 @@ pub cond-passed : (b : Bool) (yea nay : Judged) → cond b yea nay ≡ passed
 cond-passed true yea nay e = inl (refl, e)
 cond-passed false yea nay e = inr (refl, e)
 
--- A number that passes the test of a range is in it,
+-- A number that passes the test of a range is in it.
 pub within-true : (low n high : ℕ) → within low n high ≡ true → (low ≤ n) × (n ≤ high)
 within-true low n high e =
     let both = and-eq-true-iff (leb low n) (leb n high) .0 e in
     (leb-true low n (both .0), leb-true n high (both .1))
-
--- and one that is in it passes.
-pub true-within : (low n high : ℕ) → low ≤ n → n ≤ high → within low n high ≡ true
-true-within low n high l h = rw (le-leb low n l, le-leb n high h)
 
 -- What a row of values that passes says: the first is in its range, and the others pass.
 pub record InRange (s : Bytes) (at width least most : ℕ) (others : List Value) : Type 0 where

@@ -2,17 +2,14 @@
 use Prim.Native.Nat.{ℕ, zero, suc, _+_, _≤_, _<_}
 use mathlib.Core.Path.{_≡_}
 use mathlib.Core.List.{List}
-use mathlib.Core.Bool.{Bool, true, false, cond}
-use lib.Dec.{ltb, eqb}
 use lib.ListN.{length}
 use borrow.Author.Tests.{leb-true, eqb-true, lt-ltb, le-ltb}
 use native.Mathlib.Decide.{ℕ-discrete}
 use native.Mathlib.Omega.{arith}
-use Rattle.paper.specs.Limits.{plan-bytes}
 use Rattle.paper.specs.Bytes.{Bytes}
-use Rattle.paper.specs.Fields.{Judged, passed, Value, inRanges, tagAt, lengthAt, header, field, controllersOf, tasksOf, pathsOf}
-use Rattle.paper.specs.Fields.{headField, controllerField, taskField, fedField, outsideField, pathField}
-use Rattle.paper.specs.Fields.{ending, place, dueField, dueFields, fields}
+use Rattle.paper.specs.Fields.{passed, Value, inRanges, tagAt, lengthAt, header, field, controllersOf, tasksOf}
+use Rattle.paper.specs.Fields.{taskField, pathField}
+use Rattle.paper.specs.Fields.{place, dueField, dueFields, fields}
 use Rattle.paper.specs.Refusals.{read}
 use Rattle.theory.specs.Plans.Judging.{passed-both, unless-passed, within-true}
 
@@ -76,56 +73,8 @@ due-path s q at =
       le-ltb (controllersOf s + tasksOf s + q) (controllersOf s + tasksOf s) (omega arith),
     )
 
--- Where a judge passes, the field at a place ends within the plan.
-abbrev Ends : Bytes → ℕ → Judged → Type 0
-Ends s at judged = judged ≡ passed → ending s at ≤ length s
-
--- What two judges both say, a choice between them says.
-ends-either : (s : Bytes) (at : ℕ) (b : Bool) (yea nay : Judged) → Ends s at yea → Ends s at nay → Ends s at (cond b yea nay)
-ends-either s at true yea nay y n = y
-ends-either s at false yea nay y n = n
-
--- A field that passes ends within the plan.
-field-ends : (s : Bytes) (at tag shortest longest : ℕ) (values : List Value) → Ends s at (field s at tag shortest longest values)
-unfolding ending
-field-ends s at tag shortest longest values e = field-read s at tag shortest longest values e .room
-
--- A due field that passes ends within the plan.
-pub due-ends : (s : Bytes) (f at : ℕ) → dueField s f at ≡ passed → ending s at ≤ length s
-unfolding dueField headField controllerField taskField fedField outsideField pathField
-due-ends s zero at = field-ends s at _ _ _ _
-due-ends s (suc f) at =
-    let own : Ends s at (controllerField s at f) = field-ends s at _ _ _ _ in
-    let fed : Ends s at (fedField s at) = field-ends s at _ _ _ _ in
-    let outside : Ends s at (outsideField s at) = field-ends s at _ _ _ _ in
-    let task : Ends s at (taskField s at) = ends-either s at (eqb (tagAt s at) 0x21) _ _ fed outside in
-    let path : Ends s at (pathField s at) = field-ends s at _ _ _ _ in
-    ends-either s at (ltb f (controllersOf s)) _ _ own (ends-either s at (ltb f (controllersOf s + tasksOf s)) _ _ task path)
-
 module _ (s : Bytes) (reads : read s ≡ passed) where
   -- Every due field passes at its place.
   pub due-passed : (f : ℕ) → f < dueFields s → dueField s f (place s f) ≡ passed
   unfolding read
   due-passed f h = fields-each s (dueFields s) f (passed-both _ _ (passed-both _ _ reads .1) .0) h
-
-  -- The plan is no longer than the limit.
-  pub read-length : length s ≤ plan-bytes
-  unfolding read
-  read-length = leb-true _ _ (unless-passed _ _ _ (passed-both _ _ reads .0))
-
-  -- Every due field ends within the plan,
-  pub place-within : (f : ℕ) → f < dueFields s → place s (suc f) ≤ length s
-  unfolding place
-  place-within f h = due-ends s f (place s f) (due-passed f h)
-
-  -- no bytes follow the last one,
-  no-more : length s ≤ place s (dueFields s)
-  unfolding read
-  no-more = leb-true _ _ (unless-passed _ _ _ (passed-both _ _ (passed-both _ _ reads .1) .1))
-
-  -- and so it ends where the plan ends.
-  pub place-last : place s (dueFields s) ≡ length s
-  place-last =
-      let last : suc (controllersOf s + tasksOf s + pathsOf s) ≡ dueFields s = omega arith in
-      let within : place s (dueFields s) ≤ length s = rw (← last) (place-within _ (omega arith)) in
-      omega (arith, no-more, within)

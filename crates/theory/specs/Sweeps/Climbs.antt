@@ -1,6 +1,6 @@
 -- The sweeps of a sound plan climb: a task's new bound is one number at most, grows with the set, and lies between C+ and a
 -- limit.
-use Prim.Native.Nat.{ℕ, zero, suc, _*_, _≤_, _<_}
+use Prim.Native.Nat.{ℕ, zero, suc, _≤_, _<_}
 use mathlib.Core.Path.{_≡_, refl}
 use mathlib.Core.Logic.{inl, inr}
 use mathlib.Core.Bool.{Bool, true, false, cond}

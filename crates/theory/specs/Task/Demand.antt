@@ -1,13 +1,13 @@
 -- What one task's jobs and the interference that it meets demand of its controller, and the windows that this gives.
 use Prim.Native.Nat.{ℕ, _+_, _-_, _*_, _≤_, _<_}
 use mathlib.Core.Path.{_≡_}
-use native.Mathlib.Nat.{mul-le-mul-right, mul-pos}
+use native.Mathlib.Nat.{mul-pos}
 use native.Mathlib.Omega.{arith}
 use Rattle.paper.specs.Streams.{d}
 use Rattle.paper.specs.Windows.{Setting, Window}
 use Rattle.theory.specs.Numbers.Ranges.{Every}
-use Rattle.theory.specs.Numbers.FixedPoints.{Rises, Enough, fixed-smaller, fixed-enough}
-use Rattle.theory.specs.Numbers.FixedPoints.{Reached, reached-start, reached-beyond}
+use Rattle.theory.specs.Numbers.FixedPoints.{Rises, Enough, fixed-enough}
+use Rattle.theory.specs.Numbers.FixedPoints.{Reached, reached-start}
 use Rattle.theory.specs.Streams.Counting.{_⊑_}
 
 infix 4 _≼_
@@ -65,11 +65,3 @@ module _ {k : Setting} (proper : Proper k) where
             omega (arith, mul-pos a (proper .cost), proper .longer (s - C) s (omega arith)) in
             omega (arith, fixed-enough (demand-rises q a) w .least (s - C) less);
       }
-
-  -- A window is longer than the one before it, by one job's cost at least.
-  pub windows-grow : (q B B′ : ℕ) → 1 ≤ q → Window k q B → Window k (q + 1) B′ → B + k .C+ ≤ B′
-  windows-grow q B B′ a w w′ = reached-beyond (window-next q B a w) w′
-
-  -- Where there is a window, there is one for fewer jobs, and it is no longer.
-  pub window-fewer : (q q′ B′ : ℕ) → 1 ≤ q → q ≤ q′ → Window k q′ B′ → (B : ℕ) × Window k q B × (B ≤ B′)
-  window-fewer q q′ B′ a h = fixed-smaller (demand-rises q a) (λ t. omega (arith, mul-le-mul-right (k .C+) h))

@@ -1,12 +1,12 @@
 use borrow.Author.Needs.{needs}
-use Prim.Native.Nat.{ℕ, _≤_, _<_, _+_, _-_}
+use Prim.Native.Nat.{_≤_, _<_, _-_}
 use mathlib.Core.Path.{_≡_, refl}
 use native.Mathlib.Omega.{arith}
 use lib.ListN.{getD}
-use Rattle.paper.specs.Limits.{most-tasks, most-paths}
+use Rattle.paper.specs.Limits.{most-paths}
 use Rattle.paper.specs.Tables.{planOf}
 use Rattle.paper.specs.Report.{along}
-use Rattle.plan.specs.Tables.{column, pathColumns}
+use Rattle.plan.specs.Tables.{column}
 use Rattle.plan.proofs.Columns.{column-none, column-put}
 use Rattle.bench.proofs.Parts.{held, summable}
 use Rattle.bench.proofs.figures.path_sums.Statement.{statement}
