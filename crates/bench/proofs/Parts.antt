@@ -10,7 +10,7 @@ use Rattle.paper.specs.Refusals.{WellFormed}
 use Rattle.theory.specs.Plans.WellFormed.{well-formed→sound, well-formed→ranged}
 use Rattle.plan.specs.declared.paths.Paths.{Paths}
 use Rattle.plan.specs.Tables.{pathColumns}
-use Rattle.plan.proofs.WhenRead.{parts, part-same}
+use Rattle.rules.proofs.WhenRead.{parts, part-same}
 use Rattle.bench.specs.Sums.{Capped, Summable}
 
 -- The part of path q lies inside the plan, and holds the path.

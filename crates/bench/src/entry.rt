@@ -4,7 +4,8 @@ ghost use Prim.Native.Nat.{_+_, _*_, _≤_};
 ghost use lib.ListN.{length};
 ghost use Rattle.paper.specs.Limits.{most-tasks, most-paths};
 ghost use Rattle.paper.specs.Tables.{planOf};
-ghost use Rattle.paper.specs.Refusals.{WellFormed};
+ghost use Rattle.paper.specs.Fields.{passed};
+ghost use Rattle.paper.specs.Refusals.{read};
 ghost use Rattle.paper.specs.Report.{reportLength};
 ghost use Rattle.paper.specs.Load as Load;
 ghost use Rattle.sweep.specs.Columns.{perTask};
@@ -21,10 +22,11 @@ use plan::Judged;
 use plan::Paths;
 use plan::Tasks;
 use plan::controllers_of;
-use plan::judge;
 use plan::path_columns;
+use plan::read;
 use plan::task_columns;
 use report::write;
+use rules::ruled;
 use sweep::Ended;
 use sweep::Outcome;
 use sweep::periods;
@@ -84,12 +86,10 @@ fn weigh(s: &[u8], report: &mut [u8], t: Tasks, paths: Paths) -> Answer
 }
 
 // 11 and what comes after it: the plan is well-formed.
-fn measure(s: &[u8], report: &mut [u8]) -> Answer
-    requires { ⌜ WellFormed (now s) ⌝ }
+fn measure(s: &[u8], report: &mut [u8], t: Tasks, paths: Paths) -> Answer
+    requires { ⌜ Tabled (now s) t paths ⌝ }
     ensures { λ r. ⌜ Answers (now (s .entry)) (length (now (report .entry))) r (now (report .exit)) ⌝ }
 {
-    let t = task_columns(s);
-    let paths = path_columns(s);
     let needed = report_bytes(t.count, paths.count);
     if report.len() < needed {
         refuse(report, Answer::Short { needed })
@@ -98,13 +98,27 @@ fn measure(s: &[u8], report: &mut [u8]) -> Answer
     }
 }
 
+// 7 and what comes after it: the plan reads.
+fn rule(s: &[u8], report: &mut [u8]) -> Answer
+    requires { ⌜ read (now s) ≡ passed ⌝ }
+    ensures { λ r. ⌜ Answers (now (s .entry)) (length (now (report .entry))) r (now (report .exit)) ⌝ }
+{
+    let t = task_columns(s);
+    let paths = path_columns(s);
+    let judged = ruled(s, t, paths);
+    match judged {
+        Judged::Refused { number, place } => refuse(report, Answer::Refused { number, place }),
+        Judged::Passed => measure(s, report, t, paths),
+    }
+}
+
 // The answer to a plan, with its report or FF in the report space.
 pub fn answer(plan: &[u8], report: &mut [u8]) -> Answer
     ensures { λ r. ⌜ Answers (now (plan .entry)) (length (now (report .entry))) r (now (report .exit)) ⌝ }
 {
-    let judged = judge(plan);
+    let judged = read(plan);
     match judged {
         Judged::Refused { number, place } => refuse(report, Answer::Refused { number, place }),
-        Judged::Passed => measure(plan, report),
+        Judged::Passed => rule(plan, report),
     }
 }

@@ -11,7 +11,7 @@ use Rattle.paper.specs.Refusals.{WellFormed}
 use Rattle.theory.specs.Plans.Values.{read-head}
 use Rattle.plan.specs.Tables.{pathColumns}
 use Rattle.plan.proofs.Columns.{column-at}
-use Rattle.plan.proofs.WhenRead.{parts, part-same}
+use Rattle.rules.proofs.WhenRead.{parts, part-same}
 use Rattle.exports.specs.Part.{Lies}
 
 -- Those of a path of a well-formed plan lie where the columns of its paths say.

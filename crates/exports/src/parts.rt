@@ -2,8 +2,8 @@
 ghost use Rattle.paper.specs.Refusals.{WellFormed};
 ghost use Rattle.exports.specs.Part.{Lies};
 use plan::Judged;
-use plan::judge;
 use plan::path_columns;
+use rules::judge;
 
 // Where a part of the plan begins, and how many bytes it has.
 pub(crate) struct Part {

@@ -1,11 +1,6 @@
 -- What a judge of the code says, as document 01 says it.
-use Prim.Native.Nat.{ℕ}
-use mathlib.Core.Path.{_≡_}
-use Rattle.paper.specs.Bytes.{Bytes}
 use Rattle.paper.specs.Fields as Fields
 use Rattle.paper.specs.Fields.{passed, refused}
-use Rattle.paper.specs.Tables.{planOf}
-use Rattle.paper.specs.Refusals.{read, rules, First, WellFormed}
 use Rattle.plan.specs.declared.judged.Judged as code
 use Rattle.plan.specs.declared.judged.Judged.the-variants.{Passed, Refused}
 
@@ -13,12 +8,3 @@ use Rattle.plan.specs.declared.judged.Judged.the-variants.{Passed, Refus
 abbrev pub said : code.Judged → Fields.Judged
 said Passed = passed
 said (Refused number place) = refused number place
-
--- What is to be said of a plan's bytes by refusals 1 to 10.
-pub data Judges (s : Bytes) : Fields.Judged → Type 0 where
-  -- 1 to 6, by reading
-  unread : {number place : ℕ} → read s ≡ refused number place → Judges s (refused number place)
-  -- 7 to 10, by the tables
-  unsound : {number place : ℕ} → read s ≡ passed → First (rules (planOf s)) number place → Judges s (refused number place)
-  -- "A plan is well-formed when no refusal judged before 11 is due."
-  sound : WellFormed s → Judges s passed

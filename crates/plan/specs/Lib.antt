@@ -2,4 +2,3 @@
 pub mod Judged
 pub mod Places
 pub mod Tables
-pub mod Faults

@@ -7,8 +7,9 @@ use lib.Dec.{ltb}
 use lib.ListN.{getD}
 use Rattle.paper.specs.Limits.{most-tasks, most-paths}
 use Rattle.paper.specs.Bytes.{Bytes}
-use Rattle.paper.specs.Fields.{pathsOf, lengthAt}
+use Rattle.paper.specs.Fields.{passed, pathsOf, lengthAt}
 use Rattle.paper.specs.Tables.{Source, outside, fed, Plan, planOf, pathPlace}
+use Rattle.paper.specs.Refusals.{read}
 use Rattle.paper.specs.Load.{periodOf}
 use Rattle.plan.specs.declared.tasks.Tasks.{Tasks}
 use Rattle.plan.specs.declared.paths.Paths.{Paths}
@@ -71,6 +72,12 @@ pathColumns s =
       part = column most-paths 0 (pathsOf s) (λ q. pathPlace s q + 7);
       steps = column most-paths 0 (pathsOf s) (λ q. lengthAt s (pathPlace s q) - 4);
     }
+
+-- The columns are read off a plan that reads.
+pub record ReadOff (s : Bytes) (t : Tasks) (paths : Paths) : Type 0 where
+  pub reads : read s ≡ passed
+  pub tasks : t ≡ taskColumns (planOf s)
+  pub parts : paths ≡ pathColumns s
 
 -- The columns t tell the tasks of the plan p.
 pub record Told (p : Plan) (t : Tasks) : Type 0 where

@@ -11,7 +11,7 @@ fn wide(x: u8) -> u64
 }
 
 // The number in the byte at a place.
-pub(crate) fn byte_at(s: &[u8], at: usize) -> u64
+pub fn byte_at(s: &[u8], at: usize) -> u64
     ensures { λ r. ⌜ (r ≡ number (now (s .entry)) at 1) × (r < 256) ⌝ }
 {
     if at < s.len() { wide(s[at]) } else { 0 }

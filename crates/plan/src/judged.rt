@@ -22,7 +22,7 @@ pub(crate) fn and_then(so: Judged, later: Judged) -> Judged
 }
 
 // What was said so far, then a refusal unless a test holds.
-pub(crate) fn unless(so: Judged, test: bool, number: u64, place: usize) -> Judged
+pub fn unless(so: Judged, test: bool, number: u64, place: usize) -> Judged
     ensures { λ r. ⌜ said r ≡ said so andThen Fields.unless test number place ⌝ }
 {
     if test {

@@ -25,7 +25,7 @@ fn due_fields(s: &[u8]) -> usize
 }
 
 // "1; then field by field; then 6": a plan that is too long, the first fault of the due fields, bytes after the last one.
-pub(crate) fn read(s: &[u8]) -> Judged
+pub fn read(s: &[u8]) -> Judged
     ensures { λ r. ⌜ said r ≡ Refusals.read (now (s .entry)) ⌝ }
 {
     if PLAN_BYTES < s.len() {

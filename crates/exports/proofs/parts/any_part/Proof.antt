@@ -1,6 +1,6 @@
 -- `exports::parts::any_part` meets its contract.
 use borrow.Author.Needs.{needs}
-use Rattle.plan.proofs.Said.{well, ill}
+use Rattle.rules.proofs.Said.{well, ill}
 use Rattle.exports.proofs.Lying.{nowhere}
 use Rattle.exports.proofs.parts.any_part.Statement.{statement}
 use Rattle.exports.proofs.parts.any_part.Tie as tie
