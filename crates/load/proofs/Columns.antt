@@ -16,13 +16,13 @@ use Rattle.load.specs.Fraction.{denominator, numerator}
 use Rattle.load.specs.Columns.{onIn, aboveOne, Columns, Says}
 use Rattle.load.specs.declared.Overload.the-variants.{At, Nowhere}
 use Rattle.theory.specs.Numbers.Sums.{sum-ext}
-use Rattle.load.proofs.Fraction.{product-same}
+use Rattle.theory.specs.Numbers.Products.{product-ext}
 
 -- The denominator depends on the tasks below n alone.
 denominator-same : (n : ℕ) {on on′ : ℕ → Bool} {P P′ : ℕ → ℕ} → ((k : ℕ) → k < n → on k ≡ on′ k)
     → ((k : ℕ) → k < n → P k ≡ P′ k) → denominator n on P ≡ denominator n on′ P′
 unfolding denominator
-denominator-same n e f = product-same n _ _ (λ k l. rw (e k l, f k l))
+denominator-same n e f = product-ext n _ _ (λ k l. rw (e k l, f k l))
 
 -- The numerator depends on the tasks below n alone.
 numerator-same : (n : ℕ) {on on′ : ℕ → Bool} {C C′ P P′ : ℕ → ℕ} → ((k : ℕ) → k < n → on k ≡ on′ k)

@@ -9,14 +9,9 @@ use lib.Dec.{eqb}
 use borrow.Author.Tests.{eq-eqb, ne-eqb}
 use Rattle.paper.specs.Words.{sum, product, count}
 use Rattle.theory.specs.Numbers.Sums.{sum-ext}
+use Rattle.theory.specs.Numbers.Products.{product-ext}
 use Rattle.load.specs.Limbs.{base, power}
 use Rattle.load.specs.Fraction.{denominator, numerator}
-
--- A product depends on its factors alone.
-pub product-same : (n : ℕ) (f g : ℕ → ℕ) → ((k : ℕ) → k < n → f k ≡ g k) → product n f ≡ product n g
-unfolding product
-product-same zero f g h = refl
-product-same (suc n) f g h = ap₂ (λ x y. x * y) (product-same n f g (λ k l. h k (omega arith))) (h n (omega arith))
 
 -- A factor of all that a sum adds up is a factor of the sum.
 sum-times : (n : ℕ) (f : ℕ → ℕ) (q : ℕ) → sum n (λ k. f k * q) ≡ sum n f * q
@@ -50,7 +45,7 @@ others-last n on P =
     rw (denominator-next n (λ j. on j && not (eqb j n)) P, eq-eqb n n refl, and-false (on n))
     (omega (
       arith,
-      product-same n (λ j. cond (on j && not (eqb j n)) (P j) 1) (λ j. cond (on j) (P j) 1)
+      product-ext n (λ j. cond (on j && not (eqb j n)) (P j) 1) (λ j. cond (on j) (P j) 1)
           (λ j l. rw (ne-eqb j n (omega arith), and-true (on j))),
     ))
 

@@ -11,3 +11,4 @@ pub mod ReportLength
 pub mod Twin
 pub mod Case
 pub mod Starred
+pub mod Reached

@@ -2,5 +2,6 @@
 pub mod Least
 pub mod Ranges
 pub mod Sums
+pub mod Products
 pub mod Tests
 pub mod FixedPoints

@@ -7,3 +7,4 @@ pub mod Pigeonhole
 pub mod Chains
 pub mod Inputs
 pub mod WellFormed
+pub mod Load

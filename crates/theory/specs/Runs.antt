@@ -7,3 +7,4 @@ pub mod Covers
 pub mod InTime
 pub mod Paths
 pub mod Demand3
+pub mod Dense

@@ -64,6 +64,10 @@ pub record Run : Type 0 where
 abbrev pub _gets_ : Bytes → Outcome → Run
 s gets o = record { plan = s; outcome = o }
 
+-- C's plan.
+unfoldable pub C : Bytes
+C = plan 1 (taskOf 0 1 1 (outside 2 0) ∷ taskOf 0 2 1 (outside 2 0) ∷ []) []
+
 -- The starred runs. A task's record holds its number, R-, R+, input jitter, output jitter and jobs looked at; a path's its
 -- number, deadline, best and worst. Document 01 leaves the priorities and I's deadlines open; here they are 1 and 2, and 20.
 unfoldable pub table : List Run
@@ -74,8 +78,7 @@ table =
     ∷ plan 1 (taskOf 0 1 2 (outside 5 0) ∷ taskOf 0 2 4 (outside 20 0) ∷ []) []
     gets reported 2 (taskRecord 0 2 2 0 0 1 ∷ taskRecord 1 4 8 0 4 1 ∷ []) []
     -- C: twice C 1, P 2. R+ 1 and 2; d(2) = B(1) ends the look.
-    ∷ plan 1 (taskOf 0 1 1 (outside 2 0) ∷ taskOf 0 2 1 (outside 2 0) ∷ []) []
-    gets reported 2 (taskRecord 0 1 1 0 0 1 ∷ taskRecord 1 1 2 0 1 1 ∷ []) []
+    ∷ C gets reported 2 (taskRecord 0 1 1 0 0 1 ∷ taskRecord 1 1 2 0 1 1 ∷ []) []
     -- D: C 10, P 10: R+ 10.
     ∷ plan 1 (taskOf 0 1 10 (outside 10 0) ∷ []) [] gets reported 1 (taskRecord 0 10 10 0 0 1 ∷ []) []
     -- E: the same with J 1: refusal 13, place 0, sweep 1.
@@ -113,7 +116,7 @@ expected run = (passed, run .outcome)
 
 -- The two are the same for every run of the table.
 same : map computed table ≡ map expected table
-unfolding table plan taskOf pathOf reported flatten recordOf bytes each headRecord taskRecord pathRecord difference verdict
+unfolding table C plan taskOf pathOf reported flatten recordOf bytes each headRecord taskRecord pathRecord difference verdict
     before11 read _andThen_ unless inRanges header field ending place dueField fields number
     headField controllerField taskValues outsideField fedField taskField pathField
     planOf taskAt sourceAt partAt
