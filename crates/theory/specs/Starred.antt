@@ -11,7 +11,7 @@ use Rattle.paper.specs.Bytes.{Bytes, number, bytes, difference}
 use Rattle.paper.specs.Fields.{Judged, passed, _andThen_, unless, inRanges, header, field, ending, place, dueField, fields}
 use Rattle.paper.specs.Fields.{headField, controllerField, taskValues, outsideField, fedField, taskField, pathField}
 use Rattle.paper.specs.Tables.{Source, outside, fed, sourceAt, taskAt, partAt, planOf}
-use Rattle.paper.specs.Refusals.{read, feeder, back}
+use Rattle.paper.specs.Refusals.{read, feeder, back, WellFormed}
 use Rattle.paper.specs.Streams.{d, roundedUp, mostEvents, delayed}
 use Rattle.paper.specs.Windows.{output, rival, interference}
 use Rattle.paper.specs.Sets.{streamOf, inputsBack, inputs}
@@ -134,11 +134,14 @@ at-each f g (x ∷ l) e a h =
     let both = cons-eq-cons .0 e in
     elim (List·Memᴰ·cases-cons h) [ inl here ↦ rw here (both .0) | inr later ↦ at-each f g l (both .1) a later ]
 
+-- The plan of every starred run is well-formed.
+pub starred-well : (run : Run) → List·Memᴰ run table → WellFormed (run .plan)
+starred-well run h = passed-well (run .plan) (ap (λ o. o .0) (at-each computed expected table same run h))
+
 -- For every starred run, with room enough for its report, the answer that is due and what the report space then holds are the
 -- run's.
 pub starred : (run : Run) → List·Memᴰ run table → (room : ℕ) → reportLength (planOf (run .plan)) ≤ room
     → Due (run .plan) room (run .outcome .answer) (space room (run .outcome .report))
 starred run h room enough =
     let e = at-each computed expected table same run h in
-    let well = passed-well (run .plan) (ap (λ o. o .0) e) in
-    rw (sym (ap (λ o. o .1) e)) (weighed-due (run .plan) room well enough)
+    rw (sym (ap (λ o. o .1) e)) (weighed-due (run .plan) room (starred-well run h) enough)

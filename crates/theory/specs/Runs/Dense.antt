@@ -2,7 +2,6 @@
 -- tick on, and every job may cost anything from C- to C+.
 use Prim.Native.Nat.{ℕ, zero, suc, _+_, _-_, _*_, _≤_, _<_}
 use mathlib.Core.Path.{_≡_, refl}
-use native.Mathlib.Nat.{mul-le-mul-right}
 use native.Mathlib.Omega.{arith}
 use Rattle.paper.specs.Tables.{Source, outside, fed, Plan}
 use Rattle.paper.specs.Streams.{Stream, d, D, mostEvents}

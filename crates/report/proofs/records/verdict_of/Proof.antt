@@ -1,4 +1,3 @@
-use borrow.Author.Needs.{needs}
 use borrow.Author.Tests.{le-leb, lt-leb}
 use Rattle.paper.specs.Report.{verdict}
 use Rattle.report.proofs.records.verdict_of.Statement.{statement}
