@@ -16,8 +16,8 @@ use Rattle.theory.specs.Numbers.Sums.{sum-ext}
 use Rattle.theory.specs.Numbers.Tests.{both, some-passes, passes-any}
 use Rattle.theory.specs.Plans.Chains.{Feeders, back-below, endless-decided}
 use Rattle.plan.specs.Tables.{numberOf, flagOf, isFed, feederOf, Told}
-use Rattle.rules.specs.Faults.{shares, backFrom, endless, broken, crowded}
 use Rattle.plan.specs.declared.tasks.Tasks.{Tasks}
+use Rattle.rules.specs.Faults.{shares, backFrom, endless, broken, crowded}
 use Rattle.rules.proofs.Outcome.{Decides}
 
 -- One step back, by what columns tell of a source.

@@ -4,8 +4,8 @@ use native.Mathlib.Numerals.{add-one}
 use mathlib.Core.Path.{_≡_, sym}
 use mathlib.Core.Bool.{Bool, not}
 use Rattle.paper.specs.Fields.{Judged, _andThen_, unless}
-use Rattle.rules.specs.Faults.{lowest}
 use Rattle.plan.proofs.Chain.{chain, andThen-passed}
+use Rattle.rules.specs.Faults.{lowest}
 
 module _ (refusal : ℕ) (wrong : ℕ → Bool) where
   -- Below 0 nothing is wrong.

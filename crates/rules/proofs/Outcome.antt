@@ -10,8 +10,8 @@ use borrow.Author.Tests.{not-true, not-false}
 use Rattle.paper.specs.Fields.{Judged, passed, refused, _andThen_}
 use Rattle.paper.specs.Refusals.{Rule, rule, None, First}
 use Rattle.theory.specs.Plans.Judging.{refused-not-passed, passed-both, then-refused, unless-passed, unless-refused}
-use Rattle.rules.specs.Faults.{lowest}
 use Rattle.plan.proofs.Chain.{andThen-passed}
+use Rattle.rules.specs.Faults.{lowest}
 
 -- A test tells what is wrong at the numbers below n.
 pub record Decides (n : ℕ) (wrong : ℕ → Bool) (Wrong : ℕ → Type 0) : Type 0 where

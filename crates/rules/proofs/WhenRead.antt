@@ -10,13 +10,13 @@ use Rattle.paper.specs.Tables.{Source, outside, fed, pathPlace, partAt, planOf}
 use Rattle.paper.specs.Refusals.{read, rules}
 use Rattle.theory.specs.Plans.Values.{read-head, read-path}
 use Rattle.theory.specs.Plans.WellFormed.{part-steps, read-feeders}
-use Rattle.rules.specs.Judges.{Judges, unsound, sound}
 use Rattle.plan.specs.Tables.{numberOf, flagOf, feederOf, taskColumns, pathColumns}
-use Rattle.rules.specs.Faults.{OfTasks, partOf, Parts, lowest, shares, endless, broken, crowded}
 use Rattle.plan.proofs.Columns.{column-at}
+use Rattle.plan.proofs.Telling.{told}
+use Rattle.rules.specs.Judges.{Judges, unsound, sound}
+use Rattle.rules.specs.Faults.{OfTasks, partOf, Parts, lowest, shares, endless, broken, crowded}
 use Rattle.rules.proofs.Outcome.{Outcome, outcome-more, outcome-last}
 use Rattle.rules.proofs.Deciding.{decides-7, decides-8, decides-9, decides-10}
-use Rattle.plan.proofs.Telling.{told}
 
 -- What no refusal and a first refusal come to, for a plan that reads.
 pub judges : (s : Bytes) (judged : Judged) → read s ≡ passed → Outcome (rules (planOf s)) judged → Judges s judged
