@@ -1,3 +1,4 @@
+-- Laws that several functions' proofs cite.
 mod Parts
 mod Tabling
 mod Whole

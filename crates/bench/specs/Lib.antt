@@ -1,3 +1,4 @@
+-- The entry's contract, what its parts pass on, and what follows for whoever calls it.
 pub mod Answers
 pub mod Holds
 pub mod Sums

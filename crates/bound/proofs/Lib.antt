@@ -1,3 +1,3 @@
 -- Laws that the functions' proofs cite.
-pub mod Interference
-pub mod Looks
+mod Interference
+mod Looks

@@ -1,1 +1,2 @@
-pub mod Laws
+-- The laws of digits that the proof of `write` cites.
+mod Laws

@@ -1,2 +1,3 @@
-pub mod Laws
-pub mod Rows
+-- Laws that several functions' proofs cite.
+mod Laws
+mod Rows

@@ -1,3 +1,4 @@
+-- `hex::digit` meets its contract.
 use borrow.Author.Needs.{needs}
 use borrow.Author.Tests.{lt-ltb, le-ltb}
 use Rattle.hex.specs.Digits.{digitOf}

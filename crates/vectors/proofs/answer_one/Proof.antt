@@ -1,3 +1,4 @@
+-- `vectors::answer_one` meets its contract.
 use borrow.Author.Needs.{needs}
 use Prim.Native.Nat.{_≤_}
 use mathlib.Core.Path.{sym}

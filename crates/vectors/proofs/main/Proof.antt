@@ -1,3 +1,4 @@
+-- `vectors::main` meets its contract.
 use borrow.Author.Needs.{needs}
 use Rattle.vectors.proofs.main.Statement.{statement}
 use Rattle.vectors.proofs.main.Tie as tie

@@ -1,3 +1,4 @@
+-- `bench::along::sum_along` meets its contract.
 use borrow.Author.Needs.{needs}
 use Prim.Native.Nat.{ℕ, _≤_, _<_, _+_, _*_, _-_}
 use mathlib.Core.Path.{_≡_, sym, ap, _∙_}

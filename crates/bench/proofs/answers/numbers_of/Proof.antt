@@ -1,3 +1,4 @@
+-- `bench::answers::numbers_of` meets its contract.
 use borrow.Author.Needs.{needs}
 use Rattle.bench.proofs.answers.numbers_of.Statement.{statement}
 use Rattle.bench.proofs.answers.numbers_of.Tie as tie

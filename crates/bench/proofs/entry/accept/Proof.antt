@@ -1,3 +1,4 @@
+-- `bench::entry::accept` meets its contract.
 use borrow.Author.Needs.{needs}
 use mathlib.Core.Path.{_∙_}
 use native.Mathlib.Omega.{arith}

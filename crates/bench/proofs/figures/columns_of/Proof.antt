@@ -1,3 +1,4 @@
+-- `bench::figures::columns_of` meets its contract.
 use Prim.Native.Nat.{ℕ}
 use mathlib.Core.Path.{sym, subst}
 use Rattle.paper.specs.Bytes.{Bytes}

@@ -1,3 +1,4 @@
+-- `bench::refusing::refuse` meets its contract.
 use borrow.Author.Needs.{needs}
 use mathlib.Core.Path.{refl}
 use native.Mathlib.Nat.{sub-zero}

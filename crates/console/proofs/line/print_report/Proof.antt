@@ -1,3 +1,4 @@
+-- `console::line::print_report` meets its contract.
 use borrow.Author.Needs.{needs}
 use Prim.Native.Nat.{_*_}
 use mathlib.Core.Path.{sym}

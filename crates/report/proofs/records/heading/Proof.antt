@@ -1,3 +1,4 @@
+-- `report::records::heading` meets its contract.
 use borrow.Author.Needs.{needs}
 use Rattle.theory.specs.ReportLength.{bytes-length}
 use Rattle.report.proofs.Laws.{more}

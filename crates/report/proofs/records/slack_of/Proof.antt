@@ -1,3 +1,4 @@
+-- `report::records::slack_of` meets its contract.
 use borrow.Author.Needs.{needs}
 use Prim.Native.Nat.{_-_}
 use mathlib.Core.Path.{_∙_, sym, ap}

@@ -1,3 +1,4 @@
+-- `report::records::task_record` meets its contract.
 use borrow.Author.Needs.{needs}
 use mathlib.Core.Path.{refl}
 use Rattle.paper.specs.Bytes.{bytes}

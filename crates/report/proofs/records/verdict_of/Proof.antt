@@ -1,3 +1,4 @@
+-- `report::records::verdict_of` meets its contract.
 use borrow.Author.Tests.{le-leb, lt-leb}
 use Rattle.paper.specs.Report.{verdict}
 use Rattle.report.proofs.records.verdict_of.Statement.{statement}
