@@ -6,6 +6,7 @@ pub mod Tabled
 pub mod Unique
 pub mod Figures
 pub mod Numbers
+pub mod Room
 pub mod Exactly
 pub mod Promise
 pub mod Shams

@@ -1,8 +1,10 @@
-// What the programs share: reading standard input, and printing an answer in one line.
+// What the programs share: reading standard input, and the answer to a plan as one line of text.
 mod input;
 mod line;
+mod text;
 
 pub use input::Input;
 pub use input::read_up_to;
-pub use line::print_answer;
-pub use line::print_answer_and_sweep;
+pub use line::LINE;
+pub use line::answer_line;
+pub use line::answer_line_and_sweep;

@@ -1,4 +1,3 @@
 -- What the entries for C and Rust promise, and that no two outcomes satisfy it.
 pub mod Part
-pub mod Room
 pub mod Unique

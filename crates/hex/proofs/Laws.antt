@@ -6,7 +6,7 @@ use native.Mathlib.Nat.{mul-suc}
 use native.Mathlib.Numerals.{add-one, add-two}
 use lib.ListN.{length, getD, drop, set}
 use lib.Seq.{sets, drop-cons}
-use Rattle.hex.specs.Digits.{digitOf, hexOf}
+use Rattle.paper.specs.Line.{digitOf, hexOf}
 
 -- Storing the digits of byte i, and then those of the bytes behind it, is storing those of the bytes from i on.
 pub byte-more : (bytes text : List ℕ) (i : ℕ) → i < length bytes

@@ -3,7 +3,7 @@ ghost use mathlib.Core.Path.{_≡_};
 ghost use Prim.Native.Nat.{_*_, _≤_, _<_};
 ghost use lib.ListN.{length};
 ghost use lib.Seq.{sets};
-ghost use Rattle.hex.specs.Digits.{digitOf, hexOf};
+ghost use Rattle.paper.specs.Line.{digitOf, hexOf};
 
 // The digit, in ASCII, of a number below 16.
 fn digit(n: u8) -> u8

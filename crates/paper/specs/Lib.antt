@@ -20,3 +20,5 @@ pub mod Running
 pub mod Report
 -- The answer: plan bytes, room, answer and report bytes
 pub mod Answer
+-- The line that the program prints
+pub mod Line

@@ -1,7 +1,7 @@
 -- `hex::digit` meets its contract.
 use borrow.Author.Needs.{needs}
 use borrow.Author.Tests.{lt-ltb, le-ltb}
-use Rattle.hex.specs.Digits.{digitOf}
+use Rattle.paper.specs.Line.{digitOf}
 use Rattle.hex.proofs.digit.Statement.{statement}
 use Rattle.hex.proofs.digit.Tie as tie
 

@@ -5,7 +5,7 @@ use mathlib.Core.Path.{_≡_, refl, _∙_}
 use native.Mathlib.Omega.{arith}
 use lib.ListN.{length, set, length-set, drop}
 use lib.Seq.{sets, drop-length}
-use Rattle.hex.specs.Digits.{hexOf}
+use Rattle.paper.specs.Line.{hexOf}
 use Rattle.hex.proofs.Laws.{byte-more}
 use Rattle.hex.proofs.write.Statement.{statement}
 use Rattle.hex.proofs.write.Tie as tie

@@ -14,8 +14,8 @@ slice-aggregate-read-up-to c =
     let a = c .before .before .before .args in
     sym (length-take-le (a .length) (a .space .now) (omega arith))
 
-slice-aggregate-answer : tie.Need-slice-aggregate-answer
-slice-aggregate-answer c =
+slice-aggregate-answer-line-and-sweep : tie.Need-slice-aggregate-answer-line-and-sweep
+slice-aggregate-answer-line-and-sweep c =
     let a = c .before .before .before .before .before .before .before .before .before .args in
     let read = c .before .before .before .before .before .read-up-to in
     let n = a .length in
@@ -34,5 +34,5 @@ answer-one-spec =
     tie.close
     (tie.spec
     (search needs) (search needs) slice-aggregate-read-up-to (search needs) (search needs) (search needs)
-    (search needs) (search needs) slice-aggregate-answer (search needs) (search needs) (search needs)
-    (search needs) (search needs) (search needs))
+    (search needs) (search needs) (search needs) slice-aggregate-answer-line-and-sweep (search needs) (search needs)
+    (search needs) (search needs) (search needs) (search needs) (search needs) (search needs) (search needs) (search needs))

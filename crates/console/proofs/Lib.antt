@@ -1,0 +1,3 @@
+-- Laws of digits and of words put one behind the other.
+mod Decimal
+mod Laws
