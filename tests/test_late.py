@@ -176,6 +176,37 @@ class NoAnswers(unittest.TestCase):
         os.close(theirs)
 
 
+class Whole(unittest.TestCase):
+    """What the program prints is an answer only if it is one whole line and the program ended well."""
+
+    def late_over(self, program):
+        """What ./late does where the program is that script of the shell."""
+        with tempfile.TemporaryDirectory() as folder:
+            os.mkdir(f"{folder}/tools")
+            shutil.copy(LATE, folder)
+            for name, script in ("program", program), ("tools/proved.py", 'echo "${0%/*}/../program"'):
+                path = Path(folder) / name
+                path.write_text(f"#!/bin/sh\n{script}\n")
+                path.chmod(0o755)
+            return shell("./late < /dev/null", cwd=folder)
+
+    def test_whole(self):
+        self.assertEqual(self.late_over(f"printf '{LINE_J}'"), (0, LINE_J, ""))
+        self.assertEqual(self.late_over("echo 13 12"), (1, "13 12\n", ""))
+
+    def test_not_whole(self):
+        report = LINE_J.strip()
+        cut = [f"echo {report[:length]}" for length in (0, 6, 27, 28, 29, 116, len(report) - 2, len(report) - 1)]
+        more = [f"echo {report}00", f"echo {report}; echo {report}", "echo 13 12; echo", "echo 13 12; echo 13 12", "echo 13 12 0"]
+        other = [f"echo {report.lower()}", f"echo 82{report[2:]}", f"printf {report}", "printf '13 12'", "echo 13", "echo 0 87"]
+        ended = [f"echo {report}; kill -9 $$", "echo 13 12; kill -9 $$", "echo 13 12; exit 1", "true"]
+        for program in cut + more + other + ended:
+            with self.subTest(program):
+                status, output, error = self.late_over(program)
+                self.assertEqual((status, output), (2, ""))
+                self.assertRegex(error, r"late: no answer: the program printed no whole line\n\Z")
+
+
 class Scripts(unittest.TestCase):
     """README's one safe line for a script."""
 
@@ -217,10 +248,22 @@ class Stale(unittest.TestCase):
         """What ./late of the copy does with case J."""
         return shell(f"./late < {CASE_J}", cwd=self.copy)
 
+    def assert_interrupted(self):
+        """An interrupt while it proves is no answer, and leaves no proof running."""
+        proving = subprocess.Popen(["./late"], cwd=self.copy, stdin=subprocess.PIPE, stdout=subprocess.PIPE, stderr=subprocess.PIPE, start_new_session=True)
+        with self.assertRaises(subprocess.TimeoutExpired):
+            proving.wait(3)
+        os.killpg(proving.pid, signal.SIGINT)
+        output, error = proving.communicate()
+        self.assertEqual((proving.returncode, output), (2, b""))
+        self.assertRegex(error, rb"first, 14 crates: some minutes\nlate: \d+ s\nlate: interrupted\n\Z")
+        self.assertEqual(shell(f"pgrep -f '{self.copy}'")[1], "")
+
     def test_stale(self):
         """Another program, other sources, broken sources: it is proved again or does not answer."""
         program = self.copy / "target/bin/late"
         shutil.copy("/bin/true", program)
+        self.assert_interrupted()
         status, output, error = self.late()
         self.assertEqual((status, output), (0, LINE_J))
         self.assertRegex(error, r"\Alate: proving and building it first, 14 crates: some minutes\nlate: \d+ s\n\Z")
@@ -229,7 +272,7 @@ class Stale(unittest.TestCase):
         main.write_text(main.read_text().replace("let n = input.bytes;", "let n = ENOUGH + input.bytes;"))
         status, output, error = self.late()
         self.assertEqual((status, output), (2, ""))
-        log = re.search(r"late is not proved: .*; the whole log is (.*)\n\Z", error)[1]
+        log = re.search(r"\nlate: not proved: .*; the whole log is (.*)\n\Z", error)[1]
         self.assertIn("late NOT PROVED", Path(log).read_text())
 
 

@@ -12,6 +12,7 @@ import os
 import platform
 import re
 import shutil
+import signal
 import subprocess
 import sys
 import time
@@ -103,7 +104,7 @@ def make(name, kit):
     for old in program(name), TARGET / "stamp" / name:  # else the kit may take an old program for this one
         old.unlink(missing_ok=True)
     if prove(name, log) != 0:
-        raise NotBuilt(f"{name} is not proved: {verdict(log)}; the whole log is {log}")
+        raise NotBuilt(f"not proved: {verdict(log)}; the whole log is {log}")
     if sources(kit) != made_from:
         raise NotBuilt("the crates changed while they were being proved: ask again")
     (MADE / f"{name}.stamp").write_text(stamp_of(name, made_from))
@@ -114,14 +115,15 @@ def prove(name, log):
     crates = reached(name)
     progress = Progress(name, len(crates))
     with open(log, "wb") as said:
-        kit = subprocess.Popen(["rt", "check", name], cwd=ROOT, stdin=subprocess.DEVNULL, stdout=said, stderr=said)
+        kit = subprocess.Popen(["rt", "check", name], cwd=ROOT, stdin=subprocess.DEVNULL, stdout=said, stderr=said, start_new_session=True)
         try:
             while kit.poll() is None:
                 progress.show([crate for crate in proved(log) if crate in crates])
                 time.sleep(0.2)
         finally:
-            kit.terminate()
-            kit.wait()
+            if kit.poll() is None:
+                os.killpg(kit.pid, signal.SIGKILL)  # the proofs that it has begun too
+                kit.wait()
             progress.end()
     return kit.returncode
 
@@ -203,8 +205,7 @@ def main(words):
     except (NotBuilt, OSError) as fault:
         say(f"{words[0]}: {fault}\n")
         return 2
-    except KeyboardInterrupt:
-        say(f"{words[0]}: interrupted\n")
+    except KeyboardInterrupt:  # whoever asked is interrupted too, and says so
         return 2
     return 0
 

@@ -15,6 +15,11 @@ fn stop(why: &[u8]) -> bool {
     false
 }
 
+// Says that the input ends inside a length or a plan, or cannot be read.
+fn cut() -> bool {
+    stop(b"vectors: the input is cut\n")
+}
+
 // A byte as a number.
 fn wide(byte: u8) -> usize
     ensures { λ r. ⌜ r < 256 ⌝ }
@@ -29,7 +34,7 @@ fn answer_one(space: &mut [u8], length: usize) -> bool {
     }
     let input = read_up_to(&mut space[..length]);
     if input.bytes < length {
-        return stop(b"vectors: the input is cut\n");
+        return cut();
     }
     let mut text = [0u8; LINE];
     let end = answer_line_and_sweep(&space[..length], &mut text);
@@ -44,13 +49,13 @@ fn next() -> bool {
     let mut head = [0u8; 2];
     let input = read_up_to(&mut head);
     if input.failed {
-        return stop(b"vectors: the input is cut\n");
+        return cut();
     }
     if input.bytes == 0 {
         return false;
     }
     if input.bytes == 1 {
-        return stop(b"vectors: the input is cut\n");
+        return cut();
     }
     let mut plan = [0u8; LONGEST];
     answer_one(&mut plan, wide(head[0]) * 256 + wide(head[1]))

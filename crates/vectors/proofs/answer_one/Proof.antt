@@ -34,5 +34,5 @@ answer-one-spec =
     tie.close
     (tie.spec
     (search needs) (search needs) slice-aggregate-read-up-to (search needs) (search needs) (search needs)
-    (search needs) (search needs) (search needs) slice-aggregate-answer-line-and-sweep (search needs) (search needs)
+    (search needs) (search needs) slice-aggregate-answer-line-and-sweep (search needs) (search needs)
     (search needs) (search needs) (search needs) (search needs) (search needs) (search needs) (search needs) (search needs))
