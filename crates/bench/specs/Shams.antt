@@ -6,14 +6,14 @@ use lib.ListN.{length, replicate, length-replicate}
 use native.Mathlib.Omega.{arith}
 use Rattle.paper.specs.Limits.{most-ticks}
 use Rattle.paper.specs.Bytes.{Bytes, number, bytes}
-use Rattle.paper.specs.Tables.{outside, fed, planOf}
+use Rattle.paper.specs.Tables.{fed, planOf}
 use Rattle.paper.specs.Sets.{Bounds, Fits}
 use Rattle.paper.specs.Sweeps.{Swept, Settles}
 use Rattle.paper.specs.Report.{recordOf, headRecord, taskRecord, pathRecord, each, reportLength}
 use Rattle.paper.specs.Answer.{Answer, Due}
 use Rattle.theory.specs.Outcomes.Unique.{due-one}
 use Rattle.theory.specs.Twin.Answer.{refusal, space, due-some}
-use Rattle.theory.specs.Starred.{plan, taskOf, pathOf, reported, Run, _gets_, table, starred}
+use Rattle.theory.specs.Starred.{every, plan, taskOf, pathOf, reported, Run, _gets_, table, starred}
 use Rattle.bench.specs.Figures.{R+In}
 use Rattle.bench.specs.Promise.{accepted-says, accepted-least}
 
@@ -39,21 +39,21 @@ some-meets = (
 
 -- The starred run A: accepted, R+ 3, one sweep;
 abbrev A : Run
-A = plan 1 (taskOf 0 1 3 (outside 10 0) ∷ []) [] gets reported 1 (taskRecord 0 3 3 0 0 1 ∷ []) []
+A = plan 1 (taskOf 0 1 3 (every 10 0) ∷ []) [] gets reported 1 (taskRecord 0 3 3 0 0 1 ∷ []) []
 
 -- D: accepted, R+ 10;
 abbrev D : Run
-D = plan 1 (taskOf 0 1 10 (outside 10 0) ∷ []) [] gets reported 1 (taskRecord 0 10 10 0 0 1 ∷ []) []
+D = plan 1 (taskOf 0 1 10 (every 10 0) ∷ []) [] gets reported 1 (taskRecord 0 10 10 0 0 1 ∷ []) []
 
 -- E: refused, 13;
 abbrev E : Run
-E = plan 1 (taskOf 0 1 10 (outside 10 1) ∷ []) [] gets refusal 13 0 1
+E = plan 1 (taskOf 0 1 10 (every 10 1) ∷ []) [] gets refusal 13 0 1
 
 -- I: accepted, in four sweeps.
 abbrev I : Run
 I =
     plan 2
-    (taskOf 0 2 4 (outside 10 0) ∷ taskOf 1 1 4 (fed 0) ∷ taskOf 1 2 4 (outside 10 0) ∷ taskOf 0 1 4 (fed 2) ∷ [])
+    (taskOf 0 2 4 (every 10 0) ∷ taskOf 1 1 4 (fed 0) ∷ taskOf 1 2 4 (every 10 0) ∷ taskOf 0 1 4 (fed 2) ∷ [])
     (pathOf 20 (0 ∷ 1 ∷ []) ∷ pathOf 20 (2 ∷ 3 ∷ []) ∷ [])
     gets reported 4
     (taskRecord 0 4 12 0 8 2 ∷ taskRecord 1 4 6 8 10 2 ∷ taskRecord 2 4 12 0 8 2 ∷ taskRecord 3 4 6 8 10 2 ∷ [])

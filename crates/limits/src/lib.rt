@@ -22,7 +22,7 @@ pub const SHARING: usize = 16;
 pub const REPORT_BYTES: usize = 14 + 22 * TASKS + 29 * PATHS;
 
 // A path has at most so many steps.
-pub const STEPS: usize = 16;
+pub const STEPS: u64 = 16;
 
 // A cost is at most so many ticks.
 pub const COST: u64 = 1_000_000;

@@ -22,7 +22,7 @@ planWith controllers tasks controller cost periods =
             priority = k;
             C- = at cost k;
             C+ = at cost k;
-            source = outside (at periods k) 0;
+            source = outside (record { P = at periods k; J = 0 });
           };
       deadline = λ q. 0;
       path = λ q. [];
@@ -46,7 +46,7 @@ module _ (controllers tasks : ℕ) (controller cost periods : List ℕ) where
           tasks-are = refl;
           controller-of = λ k l. refl;
           cost-of = λ k l. refl;
-          period-of = λ k l. sym (period-outside p k (at periods k) 0 refl);
+          period-of = λ k l. sym (period-outside p k (record { P = at periods k; J = 0 }) refl);
         },
       )
 

@@ -5,7 +5,7 @@ use mathlib.Core.Bool.{Bool, true, false, cond}
 use lib.Dec.{leb, ltb, eqb}
 use lib.ListN.{length, replicate}
 use Rattle.paper.specs.Words.{within}
-use Rattle.paper.specs.Limits.{most-controllers, most-tasks, most-paths, most-cost, most-ticks}
+use Rattle.paper.specs.Limits.{most-controllers, most-tasks, most-paths, most-steps, most-cost, most-ticks}
 use Rattle.paper.specs.Bytes.{Bytes, number}
 
 infixr 30 _andThen_
@@ -107,7 +107,7 @@ taskField s at = cond (eqb (tagAt s at) 0x21) (fedField s at) (outsideField s at
 -- "30, 5..20: deadline (four bytes); 1 to 16 task numbers (a byte each)"; "a deadline is not 0".
 unfoldable pub pathField : Bytes → ℕ → Judged
 pathField s at =
-    field s at 0x30 5 20 (four 1 0xFFFF_FFFF ∷ replicate (lengthAt s at - 4) (byte 0 (tasksOf s - 1)))
+    field s at 0x30 (4 + 1) (4 + most-steps) (four 1 0xFFFF_FFFF ∷ replicate (lengthAt s at - 4) (byte 0 (tasksOf s - 1)))
 
 -- Where the field at a place ends.
 unfoldable pub ending : Bytes → ℕ → ℕ

@@ -21,6 +21,10 @@ most-paths = 32
 abbrev pub most-sharing : ℕ
 most-sharing = 16
 
+-- A path has at most so many steps.
+abbrev pub most-steps : ℕ
+most-steps = 16
+
 -- A cost is at most so many ticks.
 abbrev pub most-cost : ℕ
 most-cost = 1_000_000

@@ -8,7 +8,7 @@ use Rattle.paper.specs.Refusals.{back}
 
 -- The period of a source from outside (0 where it is fed).
 unfoldable pub periodOf : Source → ℕ
-periodOf (outside P J) = P
+periodOf (outside M) = M .P
 periodOf (fed j) = 0
 
 -- A task's period: "P being that of the outside stream at the chain's start".

@@ -28,7 +28,7 @@ pub record Sharing (p : Plan) (k : ℕ) : Type 0 where
 
 -- The task one step back from k: the feeder of a fed task, the task itself where it is fed from outside.
 unfoldable pub feeder : Source → ℕ → ℕ
-feeder (outside P J) k = k
+feeder (outside M) k = k
 feeder (fed j) k = j
 
 -- The task m steps back from k.
@@ -38,7 +38,7 @@ back p (suc m) k = back p m (feeder (p .task k .source) k)
 
 -- Whether a source is from outside, as that of a 20 is.
 abbrev pub FromOutside : Source → Type 0
-FromOutside (outside P J) = Unit {0}
+FromOutside (outside M) = Unit {0}
 FromOutside (fed j) = ⊥
 
 -- 8: "going back from feeder to feeder never reaches a 20".

@@ -31,7 +31,7 @@ costs r k m = sum m (r .cost k)
 -- Activations of task k up to and at tick t, by its source: "At tick t all events at t are known first"; "Job m of a fed
 -- task is activated by job m of its feeder".
 unfoldable pub activatedBy : Run → State → ℕ → ℕ → Source → ℕ
-activatedBy r state t k (outside P J) = r .events k (suc t)
+activatedBy r state t k (outside M) = r .events k (suc t)
 activatedBy r state t k (fed j) = state .finished j
 
 -- How many jobs of task k have been activated up to and at tick t.
@@ -95,9 +95,9 @@ pub record Counts (counts : ℕ → ℕ) : Type 0 where
   pub none : counts 0 ≡ 0
   pub more : (t : ℕ) → counts t ≤ counts (suc t)
 
--- A run of a plan: its outside events keep their period and jitter, and its costs lie between C- and C+.
+-- A run of a plan: its outside events keep their models, and its costs lie between C- and C+.
 pub record RunOf (p : Plan) (r : Run) : Type 0 where
-  pub counted : (k P J : ℕ) → k < p .tasks → p .task k .source ≡ outside P J → Counts (r .events k)
-  pub keeps : (k P J : ℕ) → k < p .tasks → p .task k .source ≡ outside P J → Keeps (r .ticks) (record { P = P; J = J }) (r .events k)
+  pub counted : (k : ℕ) (M : Stream) → k < p .tasks → p .task k .source ≡ outside M → Counts (r .events k)
+  pub keeps : (k : ℕ) (M : Stream) → k < p .tasks → p .task k .source ≡ outside M → Keeps (r .ticks) M (r .events k)
   pub least : (k m : ℕ) → k < p .tasks → p .task k .C- ≤ r .cost k m
   pub most : (k m : ℕ) → k < p .tasks → r .cost k m ≤ p .task k .C+

@@ -10,7 +10,7 @@ Bounds = ℕ → ℕ
 
 -- The stream of a source: its own from outside; "a fed task has its feeder's output stream".
 unfoldable pub streamOf : Plan → Bounds → Inputs → Source → Stream
-streamOf p R S (outside P J) = record { P = P; J = J }
+streamOf p R S (outside M) = M
 streamOf p R S (fed j) = output (p .task j .C-) (S j) (R j)
 
 -- Every task's input stream, the chains followed back over at most m tasks (0 and 0 beyond).

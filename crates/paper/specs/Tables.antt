@@ -6,10 +6,11 @@ use lib.Dec.{eqb}
 use lib.ListN.{take, drop}
 use Rattle.paper.specs.Bytes.{Bytes, number}
 use Rattle.paper.specs.Fields.{controllersOf, tasksOf, pathsOf, tagAt, lengthAt, place}
+use Rattle.paper.specs.Streams.{Stream}
 
--- What activates a task: events from outside, with period P and jitter J, or each completion of its feeder.
+-- What activates a task: events of a stream from outside, or each completion of its feeder.
 pub data Source : Type 0 where
-  outside : (P J : ℕ) → Source
+  outside : Stream → Source
   fed : (feeder : ℕ) → Source
 
 -- A task: its controller, its priority (smaller is more urgent), C-, C+ and its source.
@@ -29,10 +30,13 @@ pub record Plan : Type 0 where
   pub deadline : ℕ → ℕ
   pub path : ℕ → List ℕ
 
+-- The stream of a 20 whose field is at a place: its period and its jitter.
+unfoldable pub streamAt : Bytes → ℕ → Stream
+streamAt s at = record { P = number s (at + 13) 4; J = number s (at + 17) 4 }
+
 -- What feeds a task whose field is at a place.
 unfoldable pub sourceAt : Bytes → ℕ → Source
-sourceAt s at =
-    cond (eqb (tagAt s at) 0x21) (fed (number s (at + 13) 1)) (outside (number s (at + 13) 4) (number s (at + 17) 4))
+sourceAt s at = cond (eqb (tagAt s at) 0x21) (fed (number s (at + 13) 1)) (outside (streamAt s at))
 
 -- The task whose field is at a place.
 unfoldable pub taskAt : Bytes → ℕ → Task

@@ -34,17 +34,17 @@ flagOf column k = getD column k false
 
 -- Whether a source is another task.
 unfoldable pub isFed : Source → Bool
-isFed (outside P J) = false
+isFed (outside M) = false
 isFed (fed j) = true
 
 -- The feeder of a source, 0 where there is none.
 unfoldable pub feederOf : Source → ℕ
-feederOf (outside P J) = 0
+feederOf (outside M) = 0
 feederOf (fed j) = j
 
 -- The jitter of a source, 0 where it is another task.
 unfoldable pub jitterOf : Source → ℕ
-jitterOf (outside P J) = J
+jitterOf (outside M) = M .J
 jitterOf (fed j) = 0
 
 -- A plan's tasks as columns.

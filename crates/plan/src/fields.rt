@@ -22,6 +22,7 @@ use crate::values::row;
 use limits::CONTROLLERS;
 use limits::COST;
 use limits::PATHS;
+use limits::STEPS;
 use limits::TASKS;
 use limits::TICKS;
 use stream::ControllerNo;
@@ -124,7 +125,7 @@ fn path_field(s: &[u8], at: usize) -> Judged
     ensures { λ r. ⌜ said r ≡ Fields.pathField (now (s .entry)) at ⌝ }
 {
     let length = length_at(s, at);
-    let head = header(s, at, PATH, 5, 20);
+    let head = header(s, at, PATH, 5, 4 + STEPS);
     let deadline = four(s, head, at + 3, 1, MOST_DEADLINE);
     row(
         s,

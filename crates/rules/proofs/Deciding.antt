@@ -23,25 +23,25 @@ use Rattle.rules.proofs.Outcome.{Decides}
 -- One step back, by what columns tell of a source.
 one-back : (source : Source) (k : ℕ) → cond (isFed source) (feederOf source) k ≡ feeder source k
 unfolding isFed feederOf feeder
-one-back (outside P J) k = refl
+one-back (outside M) k = refl
 one-back (fed j) k = refl
 
 -- A source that is not from outside is another task,
 not-outside : (source : Source) → (FromOutside source → ⊥) → isFed source ≡ true
 unfolding isFed
-not-outside (outside P J) other = absurd (other tt)
+not-outside (outside M) other = absurd (other tt)
 not-outside (fed j) other = refl
 
 -- and one that is another task is not from outside.
 outside-not : (source : Source) → isFed source ≡ true → FromOutside source → ⊥
 unfolding isFed
-outside-not (outside P J) e o = false≢true e
+outside-not (outside M) e o = false≢true e
 outside-not (fed j) e o = o
 
 -- What is not fed by a task does not pass the test of a link,
 unlinked : (source : Source) (j : ℕ) → (source ≡ fed j → ⊥) → not (isFed source && eqb (feederOf source) j) ≡ true
 unfolding isFed feederOf
-unlinked (outside P J) j other = refl
+unlinked (outside M) j other = refl
 unlinked (fed i) j other = rw (ne-eqb i j (λ e. other (ap fed e)))
 
 -- and what is fed by it does.

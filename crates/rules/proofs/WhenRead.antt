@@ -26,7 +26,7 @@ judges s (refused number place) reads o = unsound reads (o .first number place r
 -- A feeder is the number of a task, and where there is none 0 is.
 feeder-counted : (source : Source) (n : ℕ) → ((j : ℕ) → source ≡ fed j → j < n) → 0 < n → feederOf source < n
 unfolding feederOf
-feeder-counted (outside P J) n below some = some
+feeder-counted (outside M) n below some = some
 feeder-counted (fed j) n below some = below j refl
 
 module _ (s : Bytes) (reads : read s ≡ passed) where

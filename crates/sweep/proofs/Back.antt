@@ -25,13 +25,13 @@ depth feds feeders k = depthIn feds feeders (suc most-tasks) k
 -- A source that is another task is fed by its feeder.
 fed-source : (s : Source) → isFed s ≡ true → s ≡ fed (feederOf s)
 unfolding isFed feederOf
-fed-source (outside P J) e = absurd (false≢true e)
+fed-source (outside M) e = absurd (false≢true e)
 fed-source (fed j) e = refl
 
--- A source that is no other task has a period and a jitter.
-outside-source : (s : Source) → isFed s ≡ false → s ≡ outside (periodOf s) (jitterOf s)
+-- A source that is no other task is a stream, with its period and its jitter.
+outside-source : (s : Source) → isFed s ≡ false → s ≡ outside (record { P = periodOf s; J = jitterOf s })
 unfolding isFed periodOf jitterOf
-outside-source (outside P J) e = refl
+outside-source (outside M) e = refl
 outside-source (fed j) e = absurd (false≢true (sym e))
 
 -- What a test counts is the same where what it lets through is.
@@ -50,7 +50,7 @@ module _ {p : Plan} {feds : List Bool} {feeders : List ℕ} (so : Chained p feds
 
   -- A task whose column says that it is not fed starts a chain.
   pub starts : (k : ℕ) → k < p .tasks → getD feds k false ≡ false
-      → p .task k .source ≡ outside (periodOf (p .task k .source)) (jitterOf (p .task k .source))
+      → p .task k .source ≡ outside (record { P = periodOf (p .task k .source); J = jitterOf (p .task k .source) })
   starts k h e = outside-source (p .task k .source) (sym (so .fed-of k h) ∙ e)
 
   -- A start fewer than a and fewer than b steps back is found over a steps as over b.

@@ -5,7 +5,7 @@ use mathlib.Core.Path.{_≡_, refl}
 use Rattle.paper.specs.Limits.{most-ticks}
 use Rattle.paper.specs.Tables.{Source, outside, fed, Plan}
 use Rattle.paper.specs.Refusals.{back, FromOutside}
-use Rattle.paper.specs.Streams.{delayed}
+use Rattle.paper.specs.Streams.{Stream, delayed}
 use Rattle.paper.specs.Windows.{output}
 use Rattle.paper.specs.Sets.{Bounds, streamOf, inputs}
 use Rattle.theory.specs.Plans.Sound.{Sound, Ranged}
@@ -20,9 +20,9 @@ module _ {p : Plan} (sound : Sound p) (R : Bounds) where
   jitter-fed k j h e = rw (inputs-law sound R k h, e)
 
   -- The input jitter of a task fed from outside is that of its events.
-  pub jitter-outside : (k P J : ℕ) → k < p .tasks → p .task k .source ≡ outside P J → inputs p R k .J ≡ J
+  pub jitter-outside : (k : ℕ) (M : Stream) → k < p .tasks → p .task k .source ≡ outside M → inputs p R k .J ≡ M .J
   unfolding streamOf
-  jitter-outside k P J h e = rw (inputs-law sound R k h, e)
+  jitter-outside k M h e = rw (inputs-law sound R k h, e)
 
 module _ {p : Plan} (sound : Sound p) (ranged : Ranged p) (R : Bounds) (capped : (k : ℕ) → R k ≤ most-ticks) where
   -- From a feeder's input jitter to a fed task's it is at most the limit.
@@ -32,7 +32,7 @@ module _ {p : Plan} (sound : Sound p) (ranged : Ranged p) (R : Bounds) (capped :
     where
       -- From each kind of source.
       by : (s : Source) → p .task k .source ≡ s → inputs p R k .J ≤ n + most-ticks
-      by (outside P J) e = omega (arith, jitter-outside sound R k P J h e, ranged .jitter k P J h e)
+      by (outside M) e = omega (arith, jitter-outside sound R k M h e, ranged .jitter k M h e)
       by (fed j) e = omega (arith, jitter-fed sound R k j h e, before j e, capped j)
 
   -- Along a chain that starts m steps back it is at most that for each step.

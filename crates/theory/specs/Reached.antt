@@ -7,7 +7,7 @@ use native.Mathlib.Omega.{arith}
 use Rattle.paper.specs.Words.{sum, any}
 use Rattle.paper.specs.Bytes.{number, bytes}
 use Rattle.paper.specs.Fields.{ending, place}
-use Rattle.paper.specs.Tables.{sourceAt, taskAt, planOf}
+use Rattle.paper.specs.Tables.{streamAt, sourceAt, taskAt, planOf}
 use Rattle.paper.specs.Refusals.{WellFormed}
 use Rattle.paper.specs.Streams.{roundedUp, mostEvents}
 use Rattle.paper.specs.Windows.{rival}
@@ -39,7 +39,7 @@ both-run = dense-run (well-formed→sound C C-well) 3 (λ k m. 1) cost-one
 
 -- in which the first job of the less urgent task finishes at tick 2.
 pub reached : Response (planOf C) both-at-once 1 0 2
-unfolding C plan taskOf flatten recordOf bytes each number ending place planOf taskAt sourceAt
+unfolding C plan taskOf flatten recordOf bytes each number ending place planOf taskAt sourceAt streamAt
     activations finishes stateAt step runs ends waits activatedBy any sum rival mostEvents roundedUp
 reached =
     record {

@@ -10,7 +10,7 @@ use Rattle.paper.specs.Words.{sum, product, count, any}
 use Rattle.paper.specs.Bytes.{Bytes, number, bytes, difference}
 use Rattle.paper.specs.Fields.{Judged, passed, _andThen_, unless, inRanges, header, field, ending, place, dueField, fields}
 use Rattle.paper.specs.Fields.{headField, controllerField, taskValues, outsideField, fedField, taskField, pathField}
-use Rattle.paper.specs.Tables.{Source, outside, fed, sourceAt, taskAt, partAt, planOf}
+use Rattle.paper.specs.Tables.{Source, outside, fed, streamAt, sourceAt, taskAt, partAt, planOf}
 use Rattle.paper.specs.Refusals.{read, feeder, back, WellFormed}
 use Rattle.paper.specs.Streams.{d, roundedUp, mostEvents, delayed}
 use Rattle.paper.specs.Windows.{output, rival, interference}
@@ -28,10 +28,14 @@ use Rattle.theory.specs.Twin.Answer.{Outcome, refusal, space, swept, loa
 use Rattle.theory.specs.Case.J
 
 infix 80 _gets_
+-- Events from outside every P ticks, with jitter J.
+abbrev pub every : (P J : ℕ) → Source
+every P J = outside (record { P = P; J = J })
+
 -- A task's field, a 20 or a 21, with C- = C+ = C.
 unfoldable pub taskOf : (controller priority C : ℕ) → Source → Bytes
-taskOf controller priority C (outside P J) =
-    recordOf 0x20 (controller ∷ priority ∷ bytes 4 C ++ bytes 4 C ++ bytes 4 P ++ bytes 4 J)
+taskOf controller priority C (outside M) =
+    recordOf 0x20 (controller ∷ priority ∷ bytes 4 C ++ bytes 4 C ++ bytes 4 (M .P) ++ bytes 4 (M .J))
 taskOf controller priority C (fed j) = recordOf 0x21 (controller ∷ priority ∷ bytes 4 C ++ bytes 4 C ++ (j ∷ []))
 
 -- A path's field.
@@ -66,34 +70,34 @@ s gets o = record { plan = s; outcome = o }
 
 -- C's plan.
 unfoldable pub C : Bytes
-C = plan 1 (taskOf 0 1 1 (outside 2 0) ∷ taskOf 0 2 1 (outside 2 0) ∷ []) []
+C = plan 1 (taskOf 0 1 1 (every 2 0) ∷ taskOf 0 2 1 (every 2 0) ∷ []) []
 
 -- The starred runs. A task's record holds its number, R-, R+, input jitter, output jitter and jobs looked at; a path's its
 -- number, deadline, best and worst. Document 01 leaves the priorities and I's deadlines open; here they are 1 and 2, and 20.
 unfoldable pub table : List Run
 table =
     -- A: C 3, P 10. R+ 3, one job, one sweep.
-    plan 1 (taskOf 0 1 3 (outside 10 0) ∷ []) [] gets reported 1 (taskRecord 0 3 3 0 0 1 ∷ []) []
+    plan 1 (taskOf 0 1 3 (every 10 0) ∷ []) [] gets reported 1 (taskRecord 0 3 3 0 0 1 ∷ []) []
     -- B: more urgent C 2, P 5; less urgent C 4, P 20. R+ 2 and 8.
-    ∷ plan 1 (taskOf 0 1 2 (outside 5 0) ∷ taskOf 0 2 4 (outside 20 0) ∷ []) []
+    ∷ plan 1 (taskOf 0 1 2 (every 5 0) ∷ taskOf 0 2 4 (every 20 0) ∷ []) []
     gets reported 2 (taskRecord 0 2 2 0 0 1 ∷ taskRecord 1 4 8 0 4 1 ∷ []) []
     -- C: twice C 1, P 2. R+ 1 and 2; d(2) = B(1) ends the look.
     ∷ C gets reported 2 (taskRecord 0 1 1 0 0 1 ∷ taskRecord 1 1 2 0 1 1 ∷ []) []
     -- D: C 10, P 10: R+ 10.
-    ∷ plan 1 (taskOf 0 1 10 (outside 10 0) ∷ []) [] gets reported 1 (taskRecord 0 10 10 0 0 1 ∷ []) []
+    ∷ plan 1 (taskOf 0 1 10 (every 10 0) ∷ []) [] gets reported 1 (taskRecord 0 10 10 0 0 1 ∷ []) []
     -- E: the same with J 1: refusal 13, place 0, sweep 1.
-    ∷ plan 1 (taskOf 0 1 10 (outside 10 1) ∷ []) [] gets refusal 13 0 1
+    ∷ plan 1 (taskOf 0 1 10 (every 10 1) ∷ []) [] gets refusal 13 0 1
     -- F: C 11, P 10: refusal 12.
-    ∷ plan 1 (taskOf 0 1 11 (outside 10 0) ∷ []) [] gets refusal 12 0 0
+    ∷ plan 1 (taskOf 0 1 11 (every 10 0) ∷ []) [] gets refusal 12 0 0
     -- G: C 1, P 1,000, J 1,022,976: 1,024 jobs, R+ 1,023.
-    ∷ plan 1 (taskOf 0 1 1 (outside 1000 1_022_976) ∷ []) []
+    ∷ plan 1 (taskOf 0 1 1 (every 1000 1_022_976) ∷ []) []
     gets reported 2 (taskRecord 0 1 1023 1_022_976 1_023_998 1024 ∷ []) []
     -- H: J one more: refusal 13.
-    ∷ plan 1 (taskOf 0 1 1 (outside 1000 1_022_977) ∷ []) [] gets refusal 13 0 1
+    ∷ plan 1 (taskOf 0 1 1 (every 1000 1_022_977) ∷ []) [] gets refusal 13 0 1
     -- I: two chains that cross. On controller 0: task 0 (less urgent) and task 3; on controller 1: task 2 (less urgent) and
     -- task 1. 0 feeds 1, 2 feeds 3. All C 4, P 10. R+ 12, 6, 12, 6 in four sweeps; each chain's worst is 18.
     ∷ plan 2
-    (taskOf 0 2 4 (outside 10 0) ∷ taskOf 1 1 4 (fed 0) ∷ taskOf 1 2 4 (outside 10 0) ∷ taskOf 0 1 4 (fed 2) ∷ [])
+    (taskOf 0 2 4 (every 10 0) ∷ taskOf 1 1 4 (fed 0) ∷ taskOf 1 2 4 (every 10 0) ∷ taskOf 0 1 4 (fed 2) ∷ [])
     (pathOf 20 (0 ∷ 1 ∷ []) ∷ pathOf 20 (2 ∷ 3 ∷ []) ∷ [])
     gets reported 4
     (taskRecord 0 4 12 0 8 2 ∷ taskRecord 1 4 6 8 10 2 ∷ taskRecord 2 4 12 0 8 2 ∷ taskRecord 3 4 6 8 10 2 ∷ [])
@@ -119,7 +123,7 @@ same : map computed table ≡ map expected table
 unfolding table C plan taskOf pathOf reported flatten recordOf bytes each headRecord taskRecord pathRecord difference verdict
     before11 read _andThen_ unless inRanges header field ending place dueField fields number
     headField controllerField taskValues outsideField fedField taskField pathField
-    planOf taskAt sourceAt partAt
+    planOf taskAt sourceAt streamAt partAt
     judge refusedAt lowest orElse sharing endless isFed broken feeds crowded overloaded
     any count sum product feeder back periodOf period periods otherPeriods work
     weighed loaded swept ended sweeps after differ sweep row longer bound look window search bind

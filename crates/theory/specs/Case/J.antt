@@ -6,7 +6,7 @@ use lib.ListN.{getD}
 use Rattle.paper.specs.Bytes.{Bytes, number, bytes, difference}
 use Rattle.paper.specs.Fields.{passed, _andThen_, unless, inRanges, header, field, ending, place, dueField, fields}
 use Rattle.paper.specs.Fields.{headField, controllerField, taskValues, outsideField, fedField, taskField, pathField}
-use Rattle.paper.specs.Tables.{outside, fed, sourceAt, taskAt, partAt, planOf}
+use Rattle.paper.specs.Tables.{outside, fed, streamAt, sourceAt, taskAt, partAt, planOf}
 use Rattle.paper.specs.Refusals.{read}
 use Rattle.paper.specs.Streams.{delayed}
 use Rattle.paper.specs.Windows.{output}
@@ -55,13 +55,13 @@ unfolding planOf number
 counts = (refl, refl, refl)
 
 -- Its first task: C 5, fed from outside with P 30 and J 60.
-pub first : planOf (plan 90) .task 0 ≡ record { controller = 0; priority = 1; C- = 5; C+ = 5; source = outside 30 60 }
-unfolding planOf taskAt sourceAt place ending number
+pub first : planOf (plan 90) .task 0 ≡ record { controller = 0; priority = 1; C- = 5; C+ = 5; source = outside (record { P = 30; J = 60 }) }
+unfolding planOf taskAt sourceAt streamAt place ending number
 first = refl
 
 -- Its second task: C- 1, C+ 9, less urgent and fed by the first.
 pub second : planOf (plan 90) .task 1 ≡ record { controller = 0; priority = 2; C- = 1; C+ = 9; source = fed 0 }
-unfolding planOf taskAt sourceAt place ending number
+unfolding planOf taskAt sourceAt streamAt place ending number
 second = refl
 
 -- Its path's deadline, and the path: the first task, then the second.
@@ -72,5 +72,5 @@ path = (refl, refl)
 -- Its report is the one printed.
 pub reported : report (planOf (plan 90)) figures ≡ printed 1 slack
 unfolding report each taskReport pathReport headRecord taskRecord pathRecord recordOf verdict along difference bytes
-    inputs inputsBack streamOf output delayed planOf taskAt sourceAt partAt place ending number
+    inputs inputsBack streamOf output delayed planOf taskAt sourceAt streamAt partAt place ending number
 reported = refl

@@ -31,7 +31,7 @@ back-rests p (suc m) k h = rw (own (p .task k .source) k h) (back-rests p m k h)
   where
     -- One step back from such a task is the task itself.
     own : (s : Source) (k : ℕ) → FromOutside s → feeder s k ≡ k
-    own (outside period jitter) k h = refl
+    own (outside M) k h = refl
     own (fed j) k h = absurd h
 
 -- Once a task fed from outside is reached, more steps change nothing.
@@ -48,7 +48,7 @@ back-below p feeders (suc m) k h = back-below p feeders m _ (one (p .task k .sou
   where
     -- One step back from a task of the plan is a task of the plan.
     one : (s : Source) → p .task k .source ≡ s → feeder s k < p .tasks
-    one (outside period jitter) e = h
+    one (outside M) e = h
     one (fed j) e = feeders k j h e
 
 -- Where c steps back from a task lead to it again, so do c steps any number of times.
@@ -81,7 +81,7 @@ back-ends p feeders k m n h far o = met (repeats (p .tasks) (λ i. back p i k) (
 
 -- Whether a source is from outside.
 from-outside : (s : Source) → FromOutside s ⊎ (FromOutside s → ⊥)
-from-outside (outside period jitter) = inl tt
+from-outside (outside M) = inl tt
 from-outside (fed j) = inr (λ o. o)
 
 -- One step fewer than there are tasks tells: it reaches a task fed from outside, or going back never does.

@@ -5,7 +5,7 @@ use native.Mathlib.Omega.{arith}
 use Rattle.paper.specs.Limits.{most-ticks}
 use Rattle.paper.specs.Tables.{Source, outside, fed, Plan}
 use Rattle.paper.specs.Refusals.{back, FromOutside}
-use Rattle.paper.specs.Streams.{delayed}
+use Rattle.paper.specs.Streams.{Stream, delayed}
 use Rattle.paper.specs.Windows.{Inputs, output}
 use Rattle.paper.specs.Sets.{Bounds, streamOf, inputsBack, inputs}
 use Rattle.paper.specs.Load.{periodOf, period}
@@ -16,7 +16,7 @@ use Rattle.theory.specs.Plans.Chains.{back-fed, back-rests, back-stays, 
 pub stream-same : (p : Plan) (R R′ : Bounds) (S S′ : Inputs) (source : Source)
     → ((j : ℕ) → source ≡ fed j → (R j ≡ R′ j) × (S j ≡ S′ j)) → streamOf p R S source ≡ streamOf p R′ S′ source
 unfolding streamOf
-stream-same p R R′ S S′ (outside period jitter) same = refl
+stream-same p R R′ S S′ (outside M) same = refl
 stream-same p R R′ S S′ (fed j) same = rw (same j refl .0, same j refl .1)
 
 -- Following a chain back further than its start changes no input stream.
@@ -31,31 +31,30 @@ inputs-stay p R (suc m) (suc a) (suc b) k o l r =
     stream-same p R R (inputsBack p R a) (inputsBack p R b) (p .task k .source)
     (λ j e. (refl, inputs-stay p R m a b j (rw (back-fed p m k j e) at o) (omega arith) (omega arith)))
 
--- A source from outside has a period and a jitter.
-events-of : (source : Source) → FromOutside source → (P J : ℕ) × (source ≡ outside P J)
-events-of (outside period jitter) o = (period, jitter, refl)
-events-of (fed j) o = absurd o
+-- A source from outside has a stream.
+stream-of : (source : Source) → FromOutside source → (M : Stream) × (source ≡ outside M)
+stream-of (outside M) o = (M, refl)
+stream-of (fed j) o = absurd o
 
 -- The start of task k's chain: a task of the plan that is fed from outside, with k's period.
 pub record Start (p : Plan) (k : ℕ) : Type 0 where
   pub first : ℕ
-  pub P : ℕ
-  pub J : ℕ
+  pub stream : Stream
   pub counted : first < p .tasks
-  pub source : p .task first .source ≡ outside P J
-  pub same : period p k ≡ P
+  pub source : p .task first .source ≡ outside stream
+  pub same : period p k ≡ stream .P
 
 -- A stream has the period of its source from outside, and otherwise that of its feeder's input stream.
 stream-period : (p : Plan) (R : Bounds) (S : Inputs) (source : Source) (P : ℕ) → (FromOutside source → periodOf source ≡ P)
     → ((j : ℕ) → source ≡ fed j → S j .P ≡ P) → streamOf p R S source .P ≡ P
 unfolding streamOf output delayed periodOf
-stream-period p R S (outside period jitter) P own fed-by = own tt
+stream-period p R S (outside M) P own fed-by = own tt
 stream-period p R S (fed j) P own fed-by = fed-by j refl
 
 -- A task fed from outside has the period of its events.
-pub period-outside : (p : Plan) (k P J : ℕ) → p .task k .source ≡ outside P J → period p k ≡ P
+pub period-outside : (p : Plan) (k : ℕ) (M : Stream) → p .task k .source ≡ outside M → period p k ≡ M .P
 unfolding period periodOf
-period-outside p k P J e = rw (back-rests p (p .tasks) k (rw e tt), e)
+period-outside p k M e = rw (back-rests p (p .tasks) k (rw e tt), e)
 
 module _ {p : Plan} (sound : Sound p) where
   -- Every input stream is the one that its task's source gives: a fed task has its feeder's output stream.
@@ -71,28 +70,27 @@ module _ {p : Plan} (sound : Sound p) where
   start k h =
       let end = sound .chains k h in
       let first : ℕ = back p (end .0) k in
-      let events = events-of (p .task first .source) (end .2) in
+      let (M, is) = stream-of (p .task first .source) (end .2) in
       let rests : back p (p .tasks) k ≡ first = back-stays p (end .0) (p .tasks) k (end .2) (omega (arith, end .1)) in
       record {
         first = first;
-        P = events .0;
-        J = events .1;
+        stream = M;
         counted = back-below p (sound .feeders) (end .0) k h;
-        source = events .2;
-        same = ap (λ (i : ℕ). periodOf (p .task i .source)) rests ∙ ap periodOf (events .2);
+        source = is;
+        same = ap (λ (i : ℕ). periodOf (p .task i .source)) rests ∙ ap periodOf is;
       }
 
   -- Every period is at least 1.
   pub period-some : (k : ℕ) → k < p .tasks → 1 ≤ period p k
   period-some k h =
       let s = start k h in
-      rw (s .same) (sound .some-period (s .first) (s .P) (s .J) (s .counted) (s .source))
+      rw (s .same) (sound .some-period (s .first) (s .stream) (s .counted) (s .source))
 
   -- No period is longer than the limit.
   pub period-most : Ranged p → (k : ℕ) → k < p .tasks → period p k ≤ most-ticks
   period-most ranged k h =
       let s = start k h in
-      rw (s .same) (ranged .period (s .first) (s .P) (s .J) (s .counted) (s .source))
+      rw (s .same) (ranged .period (s .first) (s .stream) (s .counted) (s .source))
 
   -- A fed task has its feeder's period.
   pub period-fed : (k j : ℕ) → k < p .tasks → p .task k .source ≡ fed j → period p k ≡ period p j

@@ -4,9 +4,10 @@ use mathlib.Core.Path.{_≡_}
 use lib.Dec.{eqb}
 use lib.ListN.{length, getD}
 use Rattle.paper.specs.Words.{count}
-use Rattle.paper.specs.Limits.{most-controllers, most-tasks, most-paths, most-sharing, most-cost, most-ticks}
+use Rattle.paper.specs.Limits.{most-controllers, most-tasks, most-paths, most-sharing, most-steps, most-cost, most-ticks}
 use Rattle.paper.specs.Tables.{outside, fed, Plan}
 use Rattle.paper.specs.Refusals.{back, FromOutside}
+use Rattle.paper.specs.Streams.{Stream}
 
 -- What the theorems rest on.
 pub record Sound (p : Plan) : Type 0 where
@@ -15,7 +16,7 @@ pub record Sound (p : Plan) : Type 0 where
   -- and at least its least.
   pub costs : (k : ℕ) → k < p .tasks → p .task k .C- ≤ p .task k .C+
   -- Outside events have a period.
-  pub some-period : (k P J : ℕ) → k < p .tasks → p .task k .source ≡ outside P J → 1 ≤ P
+  pub some-period : (k : ℕ) (M : Stream) → k < p .tasks → p .task k .source ≡ outside M → 1 ≤ M .P
   -- A feeder is a task of the plan.
   pub feeders : (k j : ℕ) → k < p .tasks → p .task k .source ≡ fed j → j < p .tasks
   -- Going back from feeder to feeder reaches a task fed from outside, in fewer steps than there are tasks.
@@ -39,8 +40,8 @@ pub record Ranged (p : Plan) : Type 0 where
   pub controller : (k : ℕ) → k < p .tasks → p .task k .controller < p .controllers
   pub priority : (k : ℕ) → k < p .tasks → p .task k .priority < 256
   pub cost : (k : ℕ) → k < p .tasks → p .task k .C+ ≤ most-cost
-  pub period : (k P J : ℕ) → k < p .tasks → p .task k .source ≡ outside P J → P ≤ most-ticks
-  pub jitter : (k P J : ℕ) → k < p .tasks → p .task k .source ≡ outside P J → J ≤ most-ticks
+  pub period : (k : ℕ) (M : Stream) → k < p .tasks → p .task k .source ≡ outside M → M .P ≤ most-ticks
+  pub jitter : (k : ℕ) (M : Stream) → k < p .tasks → p .task k .source ≡ outside M → M .J ≤ most-ticks
   pub sharing : (c : ℕ) → c < p .controllers → count (p .tasks) (λ k. eqb (p .task k .controller) c) ≤ most-sharing
   pub deadline : (q : ℕ) → q < p .paths → p .deadline q < 4294967296
-  pub path : (q : ℕ) → q < p .paths → length (p .path q) ≤ 16
+  pub path : (q : ℕ) → q < p .paths → length (p .path q) ≤ most-steps

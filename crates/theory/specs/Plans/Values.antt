@@ -7,11 +7,12 @@ use mathlib.Core.Bool.{true, false}
 use lib.Dec.{eqb}
 use lib.ListN.{length, getD}
 use native.Mathlib.Omega.{arith}
-use Rattle.paper.specs.Limits.{most-controllers, most-tasks, most-paths, most-cost, most-ticks}
+use Rattle.paper.specs.Limits.{most-controllers, most-tasks, most-paths, most-steps, most-cost, most-ticks}
 use Rattle.paper.specs.Bytes.{Bytes, number}
 use Rattle.paper.specs.Fields.{passed, Value, inRanges, tagAt, lengthAt, controllersOf, tasksOf, pathsOf, place, dueField}
 use Rattle.paper.specs.Fields.{headField, taskValues, taskField, fedField, outsideField, pathField}
-use Rattle.paper.specs.Tables.{outside, fed, sourceAt, taskAt, taskPlace, pathPlace}
+use Rattle.paper.specs.Streams.{Stream}
+use Rattle.paper.specs.Tables.{outside, fed, streamAt, sourceAt, taskAt, taskPlace, pathPlace}
 use Rattle.paper.specs.Refusals.{read}
 use Rattle.theory.specs.Plans.Judging.{cond-passed, in-range, in-ranges}
 use Rattle.theory.specs.Plans.Reading.{field-read, due-task, due-path, due-passed}
@@ -79,7 +80,7 @@ pub record TaskRead (s : Bytes) (at : ℕ) : Type 0 where
   -- What both tags have;
   pub values : TaskValues s at
   -- where it is fed from outside, a period and a jitter within the limits;
-  pub events : (P J : ℕ) → taskAt s at .source ≡ outside P J → (1 ≤ P) × (P ≤ most-ticks) × (J ≤ most-ticks)
+  pub events : (M : Stream) → taskAt s at .source ≡ outside M → (1 ≤ M .P) × (M .P ≤ most-ticks) × (M .J ≤ most-ticks)
   -- where a task feeds it, one that the head counts.
   pub feeder : (j : ℕ) → taskAt s at .source ≡ fed j → j ≤ tasksOf s - 1
 
@@ -90,7 +91,7 @@ source-fed s at tag = rw tag
 
 -- and any other task from outside.
 pub source-outside : (s : Bytes) (at : ℕ) → eqb (tagAt s at) 0x21 ≡ false
-    → taskAt s at .source ≡ outside (number s (at + 13) 4) (number s (at + 17) 4)
+    → taskAt s at .source ≡ outside (streamAt s at)
 unfolding taskAt sourceAt
 source-outside s at tag = rw tag
 
@@ -103,13 +104,13 @@ fed-read s at tag e =
     let source = source-fed s at tag in
     record {
       values = both .0;
-      events = λ P J is. let z : _≡_ {A = ℕ} 0 1 = cc in absurd (omega arith);
+      events = λ M is. let z : _≡_ {A = ℕ} 0 1 = cc in absurd (omega arith);
       feeder = λ j is. let named : j ≡ number s (at + 13) 1 = cc in rw named (task .high);
     }
 
 -- where a 20 passes, its field does,
 outside-read : (s : Bytes) (at : ℕ) → eqb (tagAt s at) 0x21 ≡ false → outsideField s at ≡ passed → TaskRead s at
-unfolding outsideField
+unfolding outsideField streamAt
 outside-read s at tag e =
     let both = values-read s at _ (field-read _ _ _ _ _ _ e .held) in
     let to-17 : at + 13 + 4 ≡ at + 17 = omega arith in
@@ -118,10 +119,7 @@ outside-read s at tag e =
     let source = source-outside s at tag in
     record {
       values = both .0;
-      events = λ P J is.
-          let P-is : P ≡ number s (at + 13) 4 = cc in
-          let J-is : J ≡ number s (at + 17) 4 = cc in
-          rw (P-is, J-is) (period .low, period .high, jitter .high);
+      events = λ M is. let own : M ≡ streamAt s at = cc in rw own (period .low, period .high, jitter .high);
       feeder = λ j is. let z : _≡_ {A = ℕ} 0 1 = cc in absurd (omega arith);
     }
 
@@ -137,9 +135,9 @@ pub record PathRead (s : Bytes) (at : ℕ) : Type 0 where
   -- Its deadline is not 0 and fits four bytes,
   pub deadline : 1 ≤ number s (at + 3) 4
   pub fits : number s (at + 3) 4 ≤ 0xFFFF_FFFF
-  -- it has 1 to 16 tasks, inside the plan,
-  pub short : 5 ≤ lengthAt s at
-  pub long : lengthAt s at ≤ 20
+  -- it has 1 task or more, and not too many, inside the plan,
+  pub short : 4 + 1 ≤ lengthAt s at
+  pub long : lengthAt s at ≤ 4 + most-steps
   pub room : at + 3 + lengthAt s at ≤ length s
   -- and the head counts each of them.
   pub steps : (i : ℕ) → i < lengthAt s at - 4 → getD s (at + 7 + i) 0 ≤ tasksOf s - 1
@@ -149,7 +147,7 @@ pub path-read : (s : Bytes) (at : ℕ) → pathField s at ≡ passed → PathRea
 unfolding pathField
 path-read s at e =
     let to-7 : at + 3 + 4 ≡ at + 7 = omega arith in
-    let path = field-read s at 0x30 5 20 _ e in
+    let path = field-read s at 0x30 _ _ _ e in
     let deadline = in-range s (at + 3) _ _ _ _ (path .held) in
     record {
       deadline = deadline .low;

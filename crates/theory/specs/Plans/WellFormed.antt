@@ -28,7 +28,7 @@ part-steps s at i path h =
 
 -- Whether a source is fed by a task.
 fed-by : (source : Source) (j : ℕ) → Dec (source ≡ fed j)
-fed-by (outside period jitter) j = no (λ e. let z : _≡_ {A = ℕ} 0 1 = cc in omega arith)
+fed-by (outside M) j = no (λ e. let z : _≡_ {A = ℕ} 0 1 = cc in omega arith)
 fed-by (fed i) j = elim (ℕ-discrete i j) [ yes same ↦ yes (ap fed same) | no other ↦ no (λ e. other cc) ]
 
 -- Where refusal 9 is not due, each of a path's tasks is fed by the one before it.
@@ -52,7 +52,7 @@ well-formed→sound s well =
     record {
       some-cost = λ k h. read-task s (well .reads) k h .values .some-cost;
       costs = λ k h. read-task s (well .reads) k h .values .costs;
-      some-period = λ k P J h e. read-task s (well .reads) k h .events P J e .0;
+      some-period = λ k M h e. read-task s (well .reads) k h .events M e .0;
       feeders = read-feeders s (well .reads);
       chains = chains-end (planOf s) (read-feeders s (well .reads)) (well .sound .1 .0);
       apart = λ j k l h c e.
@@ -77,8 +77,8 @@ well-formed→ranged s well =
           omega (arith, read-task s (well .reads) k h .values .controller, read-head s (well .reads) .some-controllers);
       priority = λ k h. omega (arith, read-task s (well .reads) k h .values .priority);
       cost = λ k h. read-task s (well .reads) k h .values .cost;
-      period = λ k P J h e. read-task s (well .reads) k h .events P J e .1;
-      jitter = λ k P J h e. read-task s (well .reads) k h .events P J e .2;
+      period = λ k M h e. read-task s (well .reads) k h .events M e .1;
+      jitter = λ k M h e. read-task s (well .reads) k h .events M e .2;
       sharing = λ c h. by-contra _ _ (λ many. well .sound .1 .1 .1 .0 c (record { counted = h; many = many }));
       deadline = λ q h. omega (arith, read-path s (well .reads) q h .fits);
       path = λ q h.

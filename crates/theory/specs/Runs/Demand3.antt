@@ -52,10 +52,10 @@ module _ (p : Plan) (S : Inputs) (R : Bounds) (sound : Sound p) (covers : Covers
     where
       -- whatever the source
       by : (source : Source) → p .task k .source ≡ source → Keeps (suc T) (S k) (activations p r k)
-      by (outside P J) e =
-          let input : S k ≡ record { P = P; J = J } = covers k l .input ∙ ap (streamOf p R S) e in
-          rw (activations-outside p r k P J e (run .counted k P J l e), input)
-          (λ m n a b now next before. run .keeps k P J l e m n a b now next (omega arith))
+      by (outside M) e =
+          let input : S k ≡ M = covers k l .input ∙ ap (streamOf p R S) e in
+          rw (activations-outside p r k M e (run .counted k M l e), input)
+          (λ m n a b now next before. run .keeps k M l e m n a b now next (omega arith))
       by (fed j) e =
           let input : S k ≡ output (p .task j .C-) (S j) (R j) = covers k l .input ∙ ap (streamOf p R S) e in
           rw (activations-fed p r k j e, input) (outputs-keep T keep j (sound .feeders k j l e))

@@ -11,7 +11,7 @@ use Rattle.theory.specs.Plans.Sound.{Sound}
 
 -- The events of a source below each tick, as many as its model allows. A task that is fed has none of its own.
 abbrev pub densest : Source → ℕ → ℕ
-densest (outside P J) = mostEvents (record { P = P; J = J })
+densest (outside M) = mostEvents M
 densest (fed j) = λ t. 0
 
 -- The run of so many ticks with such events and given costs.
@@ -47,8 +47,8 @@ pub dense-run : {p : Plan} → Sound p → (ticks : ℕ) (cost : ℕ → ℕ →
     → ((k m : ℕ) → k < p .tasks → (p .task k .C- ≤ cost k m) × (cost k m ≤ p .task k .C+)) → RunOf p (dense p ticks cost)
 dense-run sound ticks cost between =
     record {
-      counted = λ k P J h e. rw e (dense-counts _);
-      keeps = λ k P J h e. rw e (dense-keeps ticks _ (sound .some-period k P J h e));
+      counted = λ k M h e. rw e (dense-counts M);
+      keeps = λ k M h e. rw e (dense-keeps ticks M (sound .some-period k M h e));
       least = λ k m h. between k m h .0;
       most = λ k m h. between k m h .1;
     }

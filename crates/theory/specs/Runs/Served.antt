@@ -11,6 +11,7 @@ use lib.Dec.{eqb}
 use borrow.Author.Tests.{ltb-true, eqb-true, eqb-false}
 use Rattle.paper.specs.Words.{sum}
 use Rattle.paper.specs.Tables.{Source, outside, fed, Plan}
+use Rattle.paper.specs.Streams.{Stream}
 use Rattle.paper.specs.Running.{Run, costs, activatedBy, waits, runs, ends, step, stateAt, activations, finishes, At, Counts, RunOf}
 use Rattle.theory.specs.Plans.Sound.{Sound}
 use Rattle.theory.specs.Numbers.Tests.{both}
@@ -51,10 +52,10 @@ finishes-counted p r k = record { none = refl; more = more }
     more (suc t) = omega (arith, finishes-suc p r k t)
 
 -- A task fed from outside is activated by its events.
-pub activations-outside : (p : Plan) (r : Run) (k P J : ℕ) → p .task k .source ≡ outside P J → Counts (r .events k)
+pub activations-outside : (p : Plan) (r : Run) (k : ℕ) (M : Stream) → p .task k .source ≡ outside M → Counts (r .events k)
     → activations p r k ≡ r .events k
 unfolding activations activatedBy
-activations-outside p r k P J e counted = fun-ext same
+activations-outside p r k M e counted = fun-ext same
   where
     -- before each tick
     same : (t : ℕ) → activations p r k t ≡ r .events k t
@@ -104,9 +105,9 @@ module _ (p : Plan) (r : Run) (run : RunOf p r) (k : ℕ) (counted : k < p .task
     where
       -- whatever the source
       by : (source : Source) → p .task k .source ≡ source → Counts (activations p r k)
-      by (outside P J) e =
-          let events = run .counted k P J counted e in
-          rw (activations-outside p r k P J e events) events
+      by (outside M) e =
+          let events = run .counted k M counted e in
+          rw (activations-outside p r k M e events) events
       by (fed j) e = rw (activations-fed p r k j e) (finishes-counted p r j)
 
   -- n jobs more cost at most n times C+ more.

@@ -50,7 +50,7 @@ setting-milder p S S′ k counted m =
 streamOf-milder : (p : Plan) (R R′ : Bounds) (S S′ : Inputs) (source : Source) → ((j : ℕ) → source ≡ fed j → j < p .tasks)
     → Below (p .tasks) R R′ → Milder p S S′ → streamOf p R S source ⊑ streamOf p R′ S′ source
 unfolding streamOf
-streamOf-milder p R R′ S S′ (outside P J) feeders l m = milder-refl _
+streamOf-milder p R R′ S S′ (outside M) feeders l m = milder-refl _
 streamOf-milder p R R′ S S′ (fed j) feeders l m =
     let h = feeders j refl in
     milder-output (p .task j .C-) (S j) (S′ j) (R j) (R′ j) (m j h) (l j h)

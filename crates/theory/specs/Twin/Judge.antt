@@ -27,7 +27,7 @@ sharing p k =
 
 -- Whether a task feeds a source.
 unfoldable pub isFed : Source → Bool
-isFed (outside P J) = false
+isFed (outside M) = false
 isFed (fed j) = true
 
 -- 8: whether going back from task k, as many steps as there are tasks, reaches no 20.
@@ -36,7 +36,7 @@ endless p k = isFed (p .task (back p (p .tasks) k) .source)
 
 -- Whether task j feeds a source.
 unfoldable pub feeds : ℕ → Source → Bool
-feeds j (outside P J) = false
+feeds j (outside M) = false
 feeds j (fed i) = eqb i j
 
 -- 9: whether some task of path q is not fed by the one before it.
@@ -90,13 +90,13 @@ sharing-tells p k = (
 -- A source that is not from outside is fed,
 unfed-outside : (source : Source) → (FromOutside source → ⊥) → isFed source ≡ true
 unfolding isFed
-unfed-outside (outside P J) other = absurd (other tt)
+unfed-outside (outside M) other = absurd (other tt)
 unfed-outside (fed j) other = refl
 
 -- and no source is both.
 fed-not-outside : (source : Source) → isFed source ≡ true → FromOutside source → ⊥
 unfolding isFed
-fed-not-outside (outside P J) e o = false≢true e
+fed-not-outside (outside M) e o = false≢true e
 fed-not-outside (fed j) e o = o
 
 -- The test of 8 tells.
@@ -117,7 +117,7 @@ fed-feeds source j e = rw (e, eq-eqb j j refl)
 -- and any other fails it.
 unfed-feeds : (source : Source) (j : ℕ) → (source ≡ fed j → ⊥) → not (feeds j source) ≡ true
 unfolding feeds
-unfed-feeds (outside P J) j other = refl
+unfed-feeds (outside M) j other = refl
 unfed-feeds (fed i) j other = rw (ne-eqb i j (λ e. other (rw e)))
 
 -- The test of 9 tells.

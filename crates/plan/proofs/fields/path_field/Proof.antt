@@ -25,4 +25,4 @@ path-field-spec =
     tie.close
     (tie.spec
     (search needs) (search needs) (search needs) (search needs) (search needs) (search needs) (search needs)
-    (search needs) (search needs) returns)
+    (search needs) (search needs) (search needs) returns)

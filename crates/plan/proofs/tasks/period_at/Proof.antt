@@ -1,7 +1,7 @@
 -- `plan::tasks::period_at` meets its contract.
 use borrow.Author.Needs.{needs}
 use borrow.Author.Tests.{eq-eqb, ne-eqb}
-use Rattle.paper.specs.Tables.{sourceAt}
+use Rattle.paper.specs.Tables.{streamAt, sourceAt}
 use Rattle.paper.specs.Load.{periodOf}
 use Rattle.plan.proofs.tasks.period_at.Statement.{statement}
 use Rattle.plan.proofs.tasks.period_at.Tie as tie
@@ -11,7 +11,7 @@ unfolding sourceAt periodOf
 returns c = rw (← c .before .byte-at .ensures .0, eq-eqb _ _ (c .if1 .taken))
 
 returns-2 : tie.Need-returns-2
-unfolding sourceAt periodOf
+unfolding streamAt sourceAt periodOf
 returns-2 c =
     rw (← c .before .before .byte-at .ensures .0, ne-eqb _ _ (c .before .if1 .left), c .four-at .ensures .0)
 

@@ -40,7 +40,7 @@ module _ {fed : List Bool} {feeder least jitter set : List ℕ} {k delay j : ℕ
       → delay + getD jitter j 0 ≡ inputs p (boundsOf set) k .J
   met-last t p so jittered h =
       let (l, same) = met .of p so jittered h in
-      omega (arith, jitter-outside (so .sound) (boundsOf set) j _ _ l (starts so j l t), jittered .jitter-of j l)
+      omega (arith, jitter-outside (so .sound) (boundsOf set) j _ l (starts so j l t), jittered .jitter-of j l)
 
   module _ (some : (p : Plan) × Chained p fed feeder × Jittered p least jitter × (k < p .tasks)) where
     -- Task j is a task,
