@@ -7,4 +7,5 @@ pub mod Covers
 pub mod InTime
 pub mod Paths
 pub mod Demand3
+pub mod Grid
 pub mod Dense

@@ -43,7 +43,7 @@ module _ (p : Plan) (S : Inputs) (R : Bounds) (sound : Sound p) (covers : Covers
   unfolding output
   outputs-keep T keep k l =
       delayed-keeps (finishes-counted p r k) (task-follows p S R sound covers r run T keep k l) (S k) (sound .some-cost k l)
-      (keep k l)
+      (activations-counted p r run k l) (keep k l)
 
   -- Input streams that keep their models below a tick of the run keep them a tick further on.
   inputs-keep-on : (T : ℕ) → T < r .ticks → InputsKeep p S r T → InputsKeep p S r (suc T)

@@ -35,7 +35,7 @@ unfolding output
 milder-output C- M M′ R R′ m h = milder-delayed M M′ _ _ m (omega arith)
 
 -- The least distance of n + 1 events: n periods less the jitter.
-pub d-suc : (M : Stream) (n : ℕ) → d M (suc n) ≡ n * M .P - M .J
+d-suc : (M : Stream) (n : ℕ) → d M (suc n) ≡ n * M .P - M .J
 unfolding d
 d-suc M n = rw (zero-max, suc-sub-suc, sub-zero)
 
@@ -97,13 +97,23 @@ few M (suc t) some =
     div-lt-iff-lt-mul {y = suc (suc t + M .J)} some .1 (omega (arith, mul-le-mul-left (suc t + M .J) some)) in
     omega arith
 
--- Events a period apart, each late by no more than the jitter, lie no farther apart than D says.
-pub on-a-grid : (M : Stream) (late : ℕ → ℕ) → ((i : ℕ) → late i ≤ M .J) → (m n : ℕ)
-    → (m + suc n) * M .P + late (m + suc n) ≤ m * M .P + late m + D M (suc (suc n))
+-- What it is to keep the model in terms of evenly spaced moments: event m at a and event m + n at b, in order, each no later
+-- than a latest moment and m, or m + n, periods, and at most the jitter sooner, lie as far apart as the model says.
+pub apart-on-grid : (M : Stream) (latest m n a b : ℕ) → a ≤ b → (n ≡ 0 → b ≤ a)
+    → (a ≤ latest + m * M .P) × (latest + m * M .P ≤ a + M .J)
+    → (b ≤ latest + (m + n) * M .P) × (latest + (m + n) * M .P ≤ b + M .J)
+    → (a + d M (suc n) ≤ b) × (b ≤ a + D M (suc n))
 unfolding D
-on-a-grid M late l m n = omega (arith, l (m + suc n))
+apart-on-grid M latest m zero a b order same f g = (omega (arith, d-suc M 0), omega (arith, same refl))
+apart-on-grid M latest m (suc n) a b order same f g = (omega (arith, d-suc M (suc n)), omega arith)
 
--- That distance is reached: the first of them on time, the last as late as the jitter allows.
-pub D-reached : (M : Stream) (m n : ℕ) → (m + suc n) * M .P + M .J ≡ m * M .P + 0 + D M (suc (suc n))
+-- The other way round: events n apart that lie as far apart as the model says lie n periods apart, give or take the jitter.
+pub apart-near : (M : Stream) (n a b : ℕ) → (a + d M (suc n) ≤ b) × (b ≤ a + D M (suc n))
+    → (a + n * M .P ≤ b + M .J) × (b ≤ a + n * M .P + M .J)
 unfolding D
-D-reached M m n = omega arith
+apart-near M zero a b h = omega (arith, d-suc M 0)
+apart-near M (suc n) a b h = omega (arith, d-suc M (suc n))
+
+-- The least distance of m + 1 events lies on the grid that begins at tick 0: at most m periods, and at most the jitter less.
+pub d-on-grid : (M : Stream) (m : ℕ) → (d M (suc m) ≤ 0 + m * M .P) × (0 + m * M .P ≤ d M (suc m) + M .J)
+d-on-grid M m = omega (arith, d-suc M m)

@@ -1,12 +1,17 @@
--- Streams as counts: on which tick an event falls, and how many events fall in a span.
+-- Streams as counts: on which tick an event falls, how many events fall in a span, and the most that can.
 use Prim.Native.Nat.{ℕ, zero, suc, _+_, _-_, _≤_, _<_}
-use mathlib.Core.Path.{_≡_}
+use mathlib.Core.Path.{_≡_, refl}
 use native.Mathlib.Decide.{decLe, decLt}
 use native.Mathlib.Omega.{arith}
 use Rattle.paper.specs.Streams.{Stream, d, mostEvents}
 use Rattle.paper.specs.Running.{At, Keeps, Counts}
 use Rattle.theory.specs.Numbers.Sums.{rises}
-use Rattle.theory.specs.Streams.Counting.{counting}
+use Rattle.theory.specs.Streams.Counting.{counting, milder-refl, mostEvents-grows}
+
+-- The most events in a span, as it grows, are counts.
+pub most-counted : (M : Stream) → Counts (mostEvents M)
+unfolding mostEvents
+most-counted M = record { none = refl; more = λ t. mostEvents-grows M M t (suc t) (milder-refl M) (omega arith) }
 
 module _ {counts : ℕ → ℕ} (counted : Counts counts) where
   -- Counts never fall.

@@ -3,10 +3,10 @@ use Prim.Native.Nat.{ℕ, zero, suc, _+_, _-_, _≤_, _<_}
 use mathlib.Core.Path.{_≡_, refl}
 use native.Mathlib.Decide.{decLe}
 use native.Mathlib.Omega.{arith}
-use Rattle.paper.specs.Streams.{Stream, d, D, delayed}
+use Rattle.paper.specs.Streams.{Stream, delayed}
 use Rattle.paper.specs.Running.{At, Counts, Keeps}
-use Rattle.theory.specs.Streams.Counting.{d-suc}
-use Rattle.theory.specs.Streams.Counts.{counts-rise, no-later, in-order, one-tick, falls}
+use Rattle.theory.specs.Streams.Counts.{counts-rise, no-later, one-tick, falls}
+use Rattle.theory.specs.Streams.Grid.{keeps-trail, trails-keep}
 
 -- A later stream follows an earlier one, event by event, with a least and a most delay, as far as tick T.
 pub record Follows (T least most : ℕ) (earlier later : ℕ → ℕ) : Type 0 where
@@ -36,17 +36,6 @@ follows-on {T} {least} {most} {least′} {most′} {first} {second} {third} coun
         let rise = counts-rise counts (suc (b + most′)) (suc (a + (most + most′))) (omega arith) in
         omega (arith, g .in-time m b then (omega arith))
 
--- Two events, n apart, of a stream that keeps its model, at a and b, are delayed to f and g, in the same order: they keep the
--- model with the difference of the delays added.
-delayed-apart : (M : Stream) (least most n a b f g : ℕ) → (a + d M (suc n) ≤ b) × (b ≤ a + D M (suc n))
-    → a + least ≤ f → f ≤ a + most → b + least ≤ g → g ≤ b + most → f ≤ g → (n ≡ 0 → g ≤ f)
-    → (f + d (delayed M (most - least)) (suc n) ≤ g) × (g ≤ f + D (delayed M (most - least)) (suc n))
-unfolding D delayed
-delayed-apart M least most zero a b f g keeps f₁ f₂ g₁ g₂ order same =
-    (omega (arith, d-suc (delayed M (most - least)) 0), omega (arith, same refl))
-delayed-apart M least most (suc n) a b f g keeps f₁ f₂ g₁ g₂ order same =
-    (omega (arith, d-suc M (suc n), d-suc (delayed M (most - least)) (suc n)), omega arith)
-
 module _ {T least most : ℕ} {earlier later : ℕ → ℕ} (counted : Counts later) (follows : Follows T least most earlier later) where
   -- Up to tick T, an event of the later stream falls at most the most delay after that of the earlier one.
   not-late : (m a f : ℕ) → At earlier m a → At later m f → f ≤ T → f ≤ a + most
@@ -67,17 +56,12 @@ module _ {T least most : ℕ} {earlier later : ℕ → ℕ} (counted : Counts la
       (omega arith, λ inside. omega (arith, not-late m a (a + t) now then inside))
 
   -- If the earlier stream keeps its model as far as ticks below T, the later one keeps, a tick further on, the model with the
-  -- difference of the delays added.
-  pub delayed-keeps : (M : Stream) → 1 ≤ least → Keeps T M earlier
+  -- difference of the delays added: it trails the moments that are the most delay later.
+  pub delayed-keeps : (M : Stream) → 1 ≤ least → Counts earlier → Keeps T M earlier
       → Keeps (suc T) (delayed M (most - least)) later
-  delayed-keeps M some keeps m n f g first last inside =
-      let order = in-order counted m (m + n) f g (omega arith) first last in
-      let (a, now, before) = follows .began m f (first .by) in
-      let (b, then, passed) = follows .began (m + n) g (last .by) in
-      delayed-apart M least most n a b f g (keeps m n a b now then (omega arith))
-      before
-      (not-late m a f now first (omega arith))
-      passed
-      (not-late (m + n) b g then last (omega arith))
-      order
-      (λ e. in-order counted (m + n) m g f (omega arith) last first)
+  unfolding delayed
+  delayed-keeps M some counts keeps =
+      let (latest, trails) = keeps-trail T M counts keeps in
+      trails-keep (suc T) (delayed M (most - least)) counted (latest + most) (λ m f then inside.
+      let (a, now, passed) = follows .began m f (then .by) in
+      omega (arith, trails m a now (omega arith), not-late m a f now then (omega arith)))

@@ -45,7 +45,7 @@ returns c p so periods h =
     let head = c .before .before .before in
     let j = head .loop .j in
     let (l, e) = head .loop .inv .1 p so h in
-    periods j l ∙ sym (period-outside p j _ _ (starts so j l (c .before .if1 .left))) ∙ e
+    periods j l ∙ sym (period-outside p j _ (starts so j l (c .before .if1 .left))) ∙ e
 
 pub period-of-spec : {M : Type 1} → statement M
 period-of-spec =
