@@ -2,7 +2,9 @@
 pub mod Busy
 pub mod Rivals
 pub mod Served
+pub mod Jobs
 pub mod Service
+pub mod OneAtATime
 pub mod Covers
 pub mod InTime
 pub mod Paths

@@ -15,7 +15,7 @@ use Rattle.theory.specs.Streams.Counts.{counts-rise, falls, since, few-e
 use Rattle.theory.specs.Streams.Follows.{Follows}
 use Rattle.theory.specs.Runs.Busy.{Holds, LastQuiet, last-quiet, finishes-by, look-ends}
 use Rattle.theory.specs.Runs.Rivals.{overRivals-two}
-use Rattle.theory.specs.Runs.Served.{served, served-more, costs-rise, costs-most, activations-counted, done, began}
+use Rattle.theory.specs.Runs.Served.{served, served-more, costs-rise, costs-most, activations-counted, finished-exactly, began}
 use Rattle.theory.specs.Runs.Service.{level, serving}
 use Rattle.theory.specs.Runs.Covers.{Covered, Covers, bound-least}
 
@@ -97,7 +97,7 @@ module _
         let ended : s + c .says .B (suc i) ≤ a + R k = omega (arith, c .says .within (suc i) (omega arith) looked) in
         let through : activations p r k s + suc i ≡ suc m = omega arith in
         let paid = jobs-paid a s (suc i) last (omega arith) looked (omega arith) (omega arith) in
-        done p r run k counted sound m (a + R k)
+        finished-exactly p r run k counted sound m (a + R k) .1
         (omega (
           arith,
           rw through at paid,

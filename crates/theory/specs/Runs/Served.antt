@@ -1,7 +1,7 @@
 -- What the running rule gives one task: what activates it, the ticks served to it, and what a job's finish says.
 use Prim.Native.Nat.{ℕ, zero, suc, _+_, _-_, _*_, _≤_, _<_}
 use mathlib.Core.Path.{_≡_, refl, sym, ap, fun-ext}
-use mathlib.Core.Logic.{_≢_}
+use mathlib.Core.Logic.{_≢_, _↔_}
 use mathlib.Core.Bool.{Bool, true, false, cond, _&&_}
 use native.Mathlib.Nat.{add-zero, add-suc}
 use native.Mathlib.Numerals.{add-one}
@@ -93,10 +93,14 @@ served-within : (p : Plan) (r : Run) (k t n : ℕ) → served p r k (t + n) ≤ 
 served-within p r k t zero = rw (add-zero t) (omega arith)
 served-within p r k t (suc n) = rw (add-suc t n) (omega (arith, served-within p r k t n, served-more p r k (t + n)))
 
+-- The cost of m + 1 jobs is that of m jobs and job m's.
+pub costs-suc : (r : Run) (k m : ℕ) → costs r k (suc m) ≡ costs r k m + r .cost k m
+unfolding sum
+costs-suc r k m = refl
+
 -- More jobs of a task cost no less.
 pub costs-rise : (r : Run) (k m n : ℕ) → m ≤ n → costs r k m ≤ costs r k n
-unfolding sum
-costs-rise r k = rises (costs r k) (λ m. omega arith)
+costs-rise r k = rises (costs r k) (λ m. omega (arith, costs-suc r k m))
 
 module _ (p : Plan) (r : Run) (run : RunOf p r) (k : ℕ) (counted : k < p .tasks) where
   -- Activations are counts.
@@ -131,8 +135,7 @@ module _ (p : Plan) (r : Run) (run : RunOf p r) (k : ℕ) (counted : k < p .task
   module _ (sound : Sound p) where
     -- A job more costs more.
     costs-more : (m : ℕ) → costs r k m < costs r k (suc m)
-    unfolding sum
-    costs-more m = omega (arith, sound .some-cost k counted, run .least k m counted)
+    costs-more m = omega (arith, costs-suc r k m, sound .some-cost k counted, run .least k m counted)
 
     -- Jobs that cost less are fewer.
     costs-fewer : (m n : ℕ) → costs r k m < costs r k n → m < n
@@ -155,19 +158,21 @@ module _ (p : Plan) (r : Run) (run : RunOf p r) (k : ℕ) (counted : k < p .task
     still-paid false last s f e paid = rw (add-zero f, add-zero s) paid
 
     -- The finished jobs are those that the service pays for: they cost no more, and with one job more they would.
-    paid : (t : ℕ)
+    pub paid : (t : ℕ)
         → (costs r k (finishes p r k (suc t)) ≤ served p r k t) × (served p r k t < costs r k (suc (finishes p r k (suc t))))
     unfolding stateAt step finishes ends sum
     paid zero = omega (arith, costs-more 0)
     paid (suc t) = still-paid (running p r k t) (ending p r k t) (served p r k t) (finishes p r k (suc t)) refl (paid t)
 
-    -- A job is finished once the service pays for it and the jobs before it.
-    pub done : (m t : ℕ) → costs r k (suc m) ≤ served p r k t → m < finishes p r k (suc t)
-    done m t h = omega (arith, costs-fewer (suc m) (suc (finishes p r k (suc t))) (omega (arith, paid t)))
+    -- A job is finished by a tick exactly when its task was served, before that tick, what the jobs up to it cost.
+    pub finished-exactly : (m t : ℕ) → (m < finishes p r k (suc t)) ↔ (costs r k (suc m) ≤ served p r k t)
+    finished-exactly m t = (
+      λ h. omega (arith, paid t, costs-rise r k (suc m) (finishes p r k (suc t)) h),
+      λ h. omega (arith, costs-fewer (suc m) (suc (finishes p r k (suc t))) (omega (arith, paid t))),
+    )
 
     -- A job finished at tick f or sooner was activated, and since then at least C- ticks have passed.
     pub began : (m f : ℕ) → m < finishes p r k (suc f) → (a : ℕ) × At (activations p r k) m a × (a + p .task k .C- ≤ f)
-    unfolding sum
     began m f h =
         let cost = costs-rise r k (suc m) (finishes p r k (suc f)) h in
         let activated = costs-fewer m (activations p r k f) (omega (arith, paid f, served-most f, costs-more m)) in
@@ -175,4 +180,4 @@ module _ (p : Plan) (r : Run) (run : RunOf p r) (k : ℕ) (counted : k < p .task
         let e : a + (f - a) ≡ f = omega arith in
         let within : served p r k f ≤ served p r k a + (f - a) = rw e at (served-within p r k a (f - a)) in
         let before = costs-rise r k (activations p r k a) m (now .after) in
-        (a, now, omega (arith, paid f, served-most a, run .least k m counted))
+        (a, now, omega (arith, paid f, served-most a, costs-suc r k m, run .least k m counted))

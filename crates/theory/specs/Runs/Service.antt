@@ -27,20 +27,19 @@ level p r k =
     }
 
 -- Tick t is served to task k, or to a rival of it.
-Serves : Plan → Run → ℕ → ℕ → Type 0
+abbrev pub Serves : Plan → Run → ℕ → ℕ → Type 0
 Serves p r t k =
     (running p r k t ≡ true) ⊎ ((j : ℕ) × (j < p .tasks) × (rival p k j ≡ true) × (running p r j t ≡ true))
 
 module _ (p : Plan) (r : Run) (t : ℕ) where
   -- A tick served to a rival, or to a rival of it, is served to a rival.
   serves-rival : (k j : ℕ) → j < p .tasks → rival p k j ≡ true → Serves p r t j → Serves p r t k
-  unfolding Serves
   serves-rival k j l e (inl now) = inr (j, l, e, now)
   serves-rival k j l e (inr (i, h, g, now)) = inr (i, h, rival-trans p k j i e g, now)
 
   -- A tick at which a task waits is served to it or to a rival, its priority being below n.
-  serves-urgent : (n k : ℕ) → p .task k .priority < n → waits p r (stateAt p r t) t k ≡ true → Serves p r t k
-  unfolding Serves runs
+  pub serves-urgent : (n k : ℕ) → p .task k .priority < n → waits p r (stateAt p r t) t k ≡ true → Serves p r t k
+  unfolding runs
   serves-urgent zero k h e = absurd (omega arith)
   serves-urgent (suc n) k h e =
       elim (passes-or-not (any (p .tasks) (λ j. rival p k j && waits p r (stateAt p r t) t j))) [
@@ -75,7 +74,6 @@ module _ (p : Plan) (r : Run) (t : ℕ) where
 
   -- A tick served to a level adds to its service.
   level-served : (k : ℕ) → Serves p r t k → service (level p r k) t < service (level p r k) (suc t)
-  unfolding Serves
   level-served k (inl now) =
       omega (
         arith,
