@@ -1,5 +1,5 @@
 -- The promise over bytes: what an answer of 0 says, and demand 3 of the numbers that stand in the report.
-use Prim.Native.Nat.{ℕ, suc, _+_, _-_, _*_, _≤_, _<_}
+use Prim.Native.Nat.{ℕ, suc, _-_, _*_, _≤_, _<_}
 use mathlib.Core.Path.{_≡_, refl}
 use mathlib.Core.Bool.{Bool, true, false, cond}
 use mathlib.Core.List.{List, [], _∷_, _++_}
@@ -8,14 +8,16 @@ use lib.ListN.{length, getD}
 use native.Mathlib.Omega.{arith}
 use Rattle.paper.specs.Limits.{most-ticks}
 use Rattle.paper.specs.Bytes.{Bytes}
-use Rattle.paper.specs.Tables.{Plan, planOf}
+use Rattle.paper.specs.Tables.{planOf}
 use Rattle.paper.specs.Refusals.{WellFormed}
 use Rattle.paper.specs.Streams.{delayed}
 use Rattle.paper.specs.Windows.{output}
 use Rattle.paper.specs.Sets.{Bounds, inputs, LeastSet}
 use Rattle.paper.specs.Load.{period, Overloaded}
 use Rattle.paper.specs.Report.{Figures, verdict, along, worst, report, reportLength}
-use Rattle.paper.specs.Running.{Run, RunOf, At, Response, Keeps, activations, finishes}
+use Rattle.paper.specs.Running.{Run, RunOf}
+use Rattle.paper.specs.Places.{R+In, Stands}
+use Rattle.paper.specs.Kept.{claimsIn, Kept}
 use Rattle.paper.specs.Answer.{Answer, blank, Reported, Due, unread, unsound, short, overload, unbounded, accepted}
 use Rattle.theory.specs.Numbers.Least.{least-one}
 use Rattle.theory.specs.Numbers.Sums.{sum-most}
@@ -23,9 +25,8 @@ use Rattle.theory.specs.Task.Preemptive.{bounded-most}
 use Rattle.theory.specs.Plans.WellFormed.{well-formed→sound, well-formed→ranged}
 use Rattle.theory.specs.Sweeps.Climbs.{proper}
 use Rattle.theory.specs.Plans.Inputs.{period-law}
-use Rattle.theory.specs.Runs.Paths.{first, last}
 use Rattle.theory.specs.Promise.{sweeps-few, kept}
-use Rattle.bench.specs.Figures.{Fitting, Stands, report-stands, R-In, R+In, inputIn, outputIn, bestIn, worstIn}
+use Rattle.bench.specs.Figures.{Fitting, report-stands}
 use Rattle.bench.specs.Numbers.{unread-number, unsound-number}
 
 -- A sum along a path is at most the path's length times the most that a part of it is.
@@ -72,6 +73,8 @@ fitting {s} {f} well reported =
       bests = λ q l.
           omega (arith, path-most q l (λ k. p .task k .C-) (λ k h. omega (arith, sound .costs k h, ranged .cost k h)), ranged .path q l);
       worsts = λ q l. omega (arith, path-most q l (f .R) R-most, ranged .path q l);
+      above = λ q l. omega (arith, ranged .deadline q l);
+      below = λ q l. omega (arith, path-most q l (f .R) R-most, ranged .path q l);
     }
 
 -- What an answer of 0 says, with what the report space then holds: the plan is well-formed, no load is above one, the figures
@@ -114,34 +117,10 @@ accepted-least due zero =
     let says = accepted-says due zero in
     (says .figures .R, says .reported .least, says .stands .R+)
 
--- Demand 3 of the numbers in the bytes `out`, read where document 01 puts them.
-pub record KeptIn (p : Plan) (out : Bytes) (r : Run) : Type 0 where
-  -- "A job is certainly finished once R+ ticks have passed since its activation, if the run lasts that long."
-  pub in-time : (k m a : ℕ) → k < p .tasks → At (activations p r k) m a → a + R+In out k ≤ r .ticks
-      → m < finishes p r k (suc (a + R+In out k))
-  -- A response is at least R-, and at most R+ if it ends inside the run.
-  pub responses : (k m ticks : ℕ) → k < p .tasks → (response : Response p r k m ticks)
-      → (R-In out k ≤ ticks) × (response .activation + ticks ≤ r .ticks → ticks ≤ R+In out k)
-  -- Every task's input stream keeps its period and the input jitter,
-  pub inputs-keep : (k : ℕ) → k < p .tasks
-      → Keeps (r .ticks) (record { P = period p k; J = inputIn out k }) (activations p r k)
-  -- and every task's output stream its period and the output jitter.
-  pub outputs-keep : (k : ℕ) → k < p .tasks
-      → Keeps (r .ticks) (record { P = period p k; J = outputIn out k }) (finishes p r k)
-  -- A job is certainly finished on the last task of a path once the worst time has passed since its activation on the first,
-  -- if the run lasts that long.
-  pub path-in-time : (q m a : ℕ) → q < p .paths → At (activations p r (first (p .path q))) m a
-      → a + worstIn out (p .tasks) q ≤ r .ticks
-      → m < finishes p r (last (p .path q)) (suc (a + worstIn out (p .tasks) q))
-  -- Along a path a job takes at least the best time, and at most the worst if it ends inside the run.
-  pub path-responses : (q m a ticks : ℕ) → q < p .paths → At (activations p r (first (p .path q))) m a
-      → At (finishes p r (last (p .path q))) m (a + ticks)
-      → (bestIn out (p .tasks) q ≤ ticks) × (a + ticks ≤ r .ticks → ticks ≤ worstIn out (p .tasks) q)
-
 -- The promise: whatever bytes the entry accepts as a plan, with whatever room, and whatever run of that plan, of any length, the
 -- run keeps every number that stands in the report.
 pub promise : {s : Bytes} {room : ℕ} {a : Answer} {out : Bytes} → Due s room a out → a .number ≡ 0
-    → (r : Run) → RunOf (planOf s) r → KeptIn (planOf s) out r
+    → (r : Run) → RunOf (planOf s) r → Kept (planOf s) (claimsIn (planOf s) out) r
 unfolding output delayed
 promise {s} {room} {a} {out} due zero r run =
     let says = accepted-says due zero in
@@ -155,8 +134,8 @@ promise {s} {room} {a} {out} due zero r run =
     record {
       in-time = λ k m a l. rw (stands .R+ k l) (so .in-time k m a l);
       responses = λ k m ticks l. rw (stands .R- k l, stands .R+ k l) (so .responses k m ticks l);
-      inputs-keep = λ k l. rw (stands .input k l, ← stream k l) (so .inputs k l);
-      outputs-keep = λ k l. rw (stands .outputs k l, ← period-law sound R k l) (so .outputs k l);
+      inputs-keep = λ k l. rw (stands .input k l, ← stream k l) (so .inputs-keep k l);
+      outputs-keep = λ k l. rw (stands .outputs k l, ← period-law sound R k l) (so .outputs-keep k l);
       path-in-time = λ q m a l. rw (stands .worsts q l) (so .path-in-time q m a l);
       path-responses = λ q m a ticks l. rw (stands .bests q l, stands .worsts q l) (so .path-responses q m a ticks l);
     }

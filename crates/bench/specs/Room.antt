@@ -1,19 +1,14 @@
 -- Room that is enough for any report, and that a report lies within its room.
-use Prim.Native.Nat.{ℕ, _+_, _*_, _≤_}
+use Prim.Native.Nat.{ℕ, _≤_}
 use mathlib.Core.Path.{_≡_}
 use native.Mathlib.Omega.{arith}
-use Rattle.paper.specs.Limits.{most-tasks, most-paths}
 use Rattle.paper.specs.Bytes.{Bytes}
 use Rattle.paper.specs.Tables.{planOf}
 use Rattle.paper.specs.Refusals.{WellFormed}
-use Rattle.paper.specs.Report.{reportLength}
+use Rattle.paper.specs.Report.{reportLength, report-bytes}
 use Rattle.paper.specs.Answer.{Answer, Due, unread, unsound, short, overload, unbounded, accepted}
 use Rattle.theory.specs.Plans.WellFormed.{well-formed→ranged}
 use Rattle.bench.specs.Numbers.{unread-number, unsound-number}
-
--- A head, and a record for each task and each path that a plan can have.
-abbrev pub report-bytes : ℕ
-report-bytes = 14 + 22 * most-tasks + 29 * most-paths
 
 -- No report is longer, so no well-formed plan is refused with 11 where there is so much room.
 pub enough : (s : Bytes) → WellFormed s → reportLength (planOf s) ≤ report-bytes

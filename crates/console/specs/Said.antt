@@ -8,7 +8,7 @@ use Rattle.paper.specs.Bytes.{Bytes}
 use Rattle.paper.specs.Answer.{Answer, Due}
 use Rattle.paper.specs.Line.{decimalOf, wordsOf}
 use Rattle.theory.specs.Outcomes.Unique.{due-one}
-use Rattle.bench.specs.Room.{report-bytes}
+use Rattle.paper.specs.Report.{report-bytes}
 
 -- Words stand in a text from a place on, up to an end; the rest of it is as it was.
 pub record Put (before : Bytes) (at : ℕ) (words text : Bytes) (end : ℕ) : Type 0 where

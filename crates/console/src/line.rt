@@ -5,7 +5,7 @@ ghost use lib.ListN.{length, take};
 ghost use Rattle.io.specs.Counts.{Counts};
 ghost use Rattle.paper.specs.Line.{hexOf, wordsOf, lineOf};
 ghost use Rattle.bench.specs.Answers.{numbered};
-ghost use Rattle.bench.specs.Room.{report-bytes};
+ghost use Rattle.paper.specs.Report.{report-bytes};
 ghost use Rattle.console.specs.Said.{Put, Says, sweptLineOf};
 use crate::text::put;
 use crate::text::put_decimal;

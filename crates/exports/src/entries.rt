@@ -3,7 +3,7 @@ ghost use mathlib.Core.Path.{_≡_};
 ghost use lib.ListN.{length};
 ghost use Rattle.paper.specs.Answer.{Due};
 ghost use Rattle.exports.specs.Part.{Lies};
-ghost use Rattle.bench.specs.Room.{report-bytes};
+ghost use Rattle.paper.specs.Report.{report-bytes};
 use crate::parts::any_part;
 use limits::REPORT_BYTES;
 

@@ -1,7 +1,8 @@
 // Every number of document 01 that is a limit: the one home in code of what specs/Limits.antt of `paper` defines.
 ghost use mathlib.Core.Path.{_≡_};
 ghost use Rattle.paper.specs.Limits.{plan-bytes, most-controllers, most-tasks, most-paths, most-sharing};
-ghost use Rattle.paper.specs.Limits.{most-cost, most-ticks, most-jobs};
+ghost use Rattle.paper.specs.Limits.{most-steps, most-cost, most-ticks, most-jobs};
+ghost use Rattle.paper.specs.Report.{report-bytes};
 
 // A plan is at most so many bytes long.
 pub const PLAN_BYTES: usize = 4096;
@@ -40,6 +41,8 @@ fn agree()
     ensures { λ _. do ⌜ (← ⟦TASKS⟧ .entry) ≡ most-tasks ⌝ }
     ensures { λ _. do ⌜ (← ⟦PATHS⟧ .entry) ≡ most-paths ⌝ }
     ensures { λ _. do ⌜ (← ⟦SHARING⟧ .entry) ≡ most-sharing ⌝ }
+    ensures { λ _. do ⌜ (← ⟦REPORT_BYTES⟧ .entry) ≡ report-bytes ⌝ }
+    ensures { λ _. do ⌜ (← ⟦STEPS⟧ .entry) ≡ most-steps ⌝ }
     ensures { λ _. do ⌜ (← ⟦COST⟧ .entry) ≡ most-cost ⌝ }
     ensures { λ _. do ⌜ (← ⟦TICKS⟧ .entry) ≡ most-ticks ⌝ }
     ensures { λ _. do ⌜ (← ⟦JOBS⟧ .entry) ≡ most-jobs ⌝ }

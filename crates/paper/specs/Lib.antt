@@ -18,6 +18,9 @@ pub mod Load
 pub mod Running
 -- "The report"
 pub mod Report
+pub mod Places
+-- Demand 3: "The running rule" and "The report" together
+pub mod Kept
 -- The answer: plan bytes, room, answer and report bytes
 pub mod Answer
 -- The line that the program prints

@@ -4,10 +4,23 @@ use mathlib.Core.List.{List, [], _∷_, _++_}
 use mathlib.Core.Bool.{cond}
 use lib.Dec.{leb}
 use lib.ListN.{length}
+use Rattle.paper.specs.Limits.{most-tasks, most-paths}
 use Rattle.paper.specs.Bytes.{Bytes, bytes, difference}
 use Rattle.paper.specs.Tables.{Plan}
 use Rattle.paper.specs.Windows.{output}
 use Rattle.paper.specs.Sets.{Bounds, inputs}
+
+-- How many bytes the head is long,
+abbrev pub head-bytes : ℕ
+head-bytes = 14
+
+-- a task's record
+abbrev pub task-bytes : ℕ
+task-bytes = 22
+
+-- and a path's.
+abbrev pub path-bytes : ℕ
+path-bytes = 29
 
 -- The figures of a report: the sweeps, each task's R+ and the number of its jobs looked at.
 pub record Figures : Type 0 where
@@ -81,4 +94,8 @@ report p f =
 
 -- "Length is 14 + 22 for each task + 29 for each path."
 unfoldable pub reportLength : Plan → ℕ
-reportLength p = 14 + 22 * p .tasks + 29 * p .paths
+reportLength p = head-bytes + task-bytes * p .tasks + path-bytes * p .paths
+
+-- "The program has room for any report."
+abbrev pub report-bytes : ℕ
+report-bytes = head-bytes + task-bytes * most-tasks + path-bytes * most-paths

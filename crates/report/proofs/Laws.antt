@@ -1,8 +1,8 @@
 -- Laws of runs of stores, on which the writers' proofs rest. Assumes nothing.
-use Prim.Native.Nat.{ℕ, zero, suc, _+_, _-_, _≤_, _<_, _*_, _/_, _%_, _^_}
+use Prim.Native.Nat.{ℕ, zero, suc, _+_, _-_, _≤_, _<_, _*_, _/_, _%_}
 use mathlib.Core.Path.{_≡_, refl, sym, ap, ap₂, _∙_}
 use mathlib.Core.List.{[], _∷_, _++_, append-nil, append-assoc}
-use native.Mathlib.Nat.{add-suc, suc-add, add-zero, zero-add, add-comm, pow-succ', add-mul-div-left, add-mul-mod-self-left}
+use native.Mathlib.Nat.{add-suc, suc-add, add-zero, zero-add}
 use native.Mathlib.Numerals.{add-one, sub-one}
 use native.Mathlib.Omega.{arith}
 use lib.ListN.{length, take, drop, set, replicate, length-drop, drop-of-length-le}
@@ -10,18 +10,9 @@ use lib.Seq.{sets, length-sets, sets-eq, set-comm, take-all, take-at, drop-drop}
 use borrow.Rule.Slice.PartMut.{midOf, postOf, putMid}
 use Rattle.paper.specs.Bytes.{Bytes, bytes}
 use Rattle.paper.specs.Report.{each}
-use Rattle.theory.specs.ReportLength.{bytes-length, each-length}
+use Rattle.theory.specs.Bytes.{bytes-length}
+use Rattle.theory.specs.ReportLength.{each-length}
 use Rattle.report.specs.Wrote.{Wrote}
-
--- What does not fit `width` bytes is left out.
-pub bytes-over : (width n : ℕ) → bytes width (256 ^ width + n) ≡ bytes width n
-unfolding bytes
-bytes-over zero n = refl
-bytes-over (suc width) n =
-    let e : 256 ^ suc width + n ≡ n + 256 * 256 ^ width = omega (arith, pow-succ' 256 width) in
-    let some : 0 < 256 = omega arith in
-    rw (e, add-mul-div-left n (256 ^ width), add-mul-mod-self-left n 256 (256 ^ width), add-comm (n / 256))
-    (ap (λ front. front ++ (n % 256 ∷ [])) (bytes-over width (n / 256)))
 
 -- One run of stores after another is one run.
 pub sets-append : (l : Bytes) (i : ℕ) (vs ws : Bytes) → sets (sets l i vs) (i + length vs) ws ≡ sets l i (vs ++ ws)

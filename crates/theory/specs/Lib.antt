@@ -1,5 +1,6 @@
 -- What follows from document 01's definitions. Read Promise first: demands 2 and 3 for a well-formed plan.
 pub mod Numbers
+pub mod Bytes
 pub mod Streams
 pub mod Task
 pub mod Plans

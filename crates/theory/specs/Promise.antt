@@ -9,6 +9,7 @@ use Rattle.paper.specs.Refusals.{WellFormed}
 use Rattle.paper.specs.Sets.{Bounds, inputs, Fits, LeastSet}
 use Rattle.paper.specs.Sweeps.{Settles, Leaving}
 use Rattle.paper.specs.Running.{Run, RunOf}
+use Rattle.paper.specs.Kept.{Kept}
 use Rattle.theory.specs.Task.Preemptive.{bounded-says}
 use Rattle.theory.specs.Plans.Sound.{Sound}
 use Rattle.theory.specs.Plans.Inputs.{inputs-law, period-law, period-some}
@@ -16,7 +17,9 @@ use Rattle.theory.specs.Plans.WellFormed.{well-formed→sound}
 use Rattle.theory.specs.Sweeps.Demand2
 use Rattle.theory.specs.Sweeps.Climbs.{proper, climbing}
 use Rattle.theory.specs.Runs.Covers.{Covers}
-use Rattle.theory.specs.Runs.Demand3.{Kept, demand-3}
+use Rattle.theory.specs.Runs.Demand3.{claimsOf, demand-3}
+use Rattle.theory.specs.Runs.OneAtATime.{Idle, Spends}
+use Rattle.theory.specs.Runs.OneAtATime
 
 -- A consistent set within limits covers the windows of every task of a sound plan.
 pub fits-cover : {p : Plan} {R : Bounds} → Sound p → Fits p R → Covers p (inputs p R) R
@@ -48,7 +51,13 @@ module _ {s : Bytes} (well : WellFormed s) where
   sweeps-few = Demand2.sweeps-few (planOf s) (climbing (planOf s) (well-formed→sound s well))
 
   -- Every consistent set within limits, in particular the reported one, is kept in every run of the plan, of any length.
-  pub kept : {R : Bounds} → Fits (planOf s) R → (r : Run) → RunOf (planOf s) r → Kept (planOf s) (inputs (planOf s) R) R r
+  pub kept : {R : Bounds} → Fits (planOf s) R → (r : Run) → RunOf (planOf s) r
+      → Kept (planOf s) (claimsOf (planOf s) (inputs (planOf s) R) R) r
   kept {R} fits r run =
       let sound = well-formed→sound s well in
       demand-3 (planOf s) (inputs (planOf s) R) R sound (fits-cover sound fits) r run
+
+  -- One at a time: at every tick of every run, each controller spends it on exactly one of its tasks, the right one, where any
+  -- of them waits, and on none where none does.
+  pub one-at-a-time : (r : Run) (c t : ℕ) → Idle (planOf s) r c t ⊎ Spends (planOf s) r c t
+  one-at-a-time = OneAtATime.one-at-a-time (well-formed→sound s well)

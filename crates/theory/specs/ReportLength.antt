@@ -1,18 +1,13 @@
 -- The report's length: "14 + 22 for each task + 29 for each path".
 use Prim.Native.Nat.{ℕ, zero, suc, _+_, _*_}
-use mathlib.Core.Path.{_≡_, refl}
+use mathlib.Core.Path.{_≡_}
 use lib.ListN.{length, length-append}
 use native.Mathlib.Omega.{arith}
-use Rattle.paper.specs.Bytes.{Bytes, bytes, difference}
+use Rattle.paper.specs.Bytes.{Bytes, difference}
 use Rattle.paper.specs.Tables.{Plan}
 use Rattle.paper.specs.Report.{Figures, recordOf, headRecord, taskRecord, pathRecord}
 use Rattle.paper.specs.Report.{taskReport, pathReport, each, report, reportLength}
-
--- A number takes its width.
-pub bytes-length : (width n : ℕ) → length (bytes width n) ≡ width
-unfolding bytes
-bytes-length zero n = refl
-bytes-length (suc width) n = simp (length-append, bytes-length width) (omega arith)
+use Rattle.theory.specs.Bytes.{bytes-length}
 
 -- A record has three bytes before its value.
 record-length : (tag : ℕ) (value : Bytes) → length (recordOf tag value) ≡ 3 + length value

@@ -1,40 +1,31 @@
 -- Demand 3: no run, of any length, breaks a figure of a set of bounds that covers the plan.
-use Prim.Native.Nat.{ℕ, zero, suc, _+_, _≤_, _<_}
+use Prim.Native.Nat.{ℕ, zero, suc, _≤_, _<_}
 use mathlib.Core.Path.{_≡_, refl, _∙_, ap}
 use native.Mathlib.Omega.{arith}
 use Rattle.paper.specs.Tables.{Source, outside, fed, Plan}
 use Rattle.paper.specs.Windows.{Inputs, output}
 use Rattle.paper.specs.Sets.{Bounds, streamOf}
 use Rattle.paper.specs.Report.{best, worst}
-use Rattle.paper.specs.Running.{Run, activations, finishes, At, Response, Keeps, RunOf}
+use Rattle.paper.specs.Running.{Run, activations, finishes, Keeps, RunOf}
+use Rattle.paper.specs.Kept.{first, last, Claims, Kept}
 use Rattle.theory.specs.Plans.Sound.{Sound}
 use Rattle.theory.specs.Streams.Follows.{Follows, delay-between, delayed-keeps}
 use Rattle.theory.specs.Runs.Served.{activations-outside, activations-fed, activations-counted, finishes-counted}
 use Rattle.theory.specs.Runs.Covers.{Covers}
 use Rattle.theory.specs.Runs.InTime.{InputsKeep, task-follows}
-use Rattle.theory.specs.Runs.Paths.{first, last, path-follows}
+use Rattle.theory.specs.Runs.Paths.{path-follows}
 
--- The figures of a set of bounds R over input streams S, kept in a run.
-pub record Kept (p : Plan) (S : Inputs) (R : Bounds) (r : Run) : Type 0 where
-  -- "A job is certainly finished once R+ ticks have passed since its activation, if the run lasts that long."
-  pub in-time : (k m a : ℕ) → k < p .tasks → At (activations p r k) m a → a + R k ≤ r .ticks
-      → m < finishes p r k (suc (a + R k))
-  -- A response is at least R-, and at most R+ if it ends inside the run.
-  pub responses : (k m ticks : ℕ) → k < p .tasks → (response : Response p r k m ticks)
-      → (p .task k .C- ≤ ticks) × (response .activation + ticks ≤ r .ticks → ticks ≤ R k)
-  -- Every task's input stream keeps its model,
-  pub inputs : (k : ℕ) → k < p .tasks → Keeps (r .ticks) (S k) (activations p r k)
-  -- and so does every task's output stream, also one that feeds nobody.
-  pub outputs : (k : ℕ) → k < p .tasks → Keeps (r .ticks) (output (p .task k .C-) (S k) (R k)) (finishes p r k)
-  -- A job is certainly finished on the last task of a path once the worst time along it has passed since its activation on the
-  -- first, if the run lasts that long.
-  pub path-in-time : (q m a : ℕ) → q < p .paths → At (activations p r (first (p .path q))) m a → a + worst p R q ≤ r .ticks
-      → m < finishes p r (last (p .path q)) (suc (a + worst p R q))
-  -- From activation on the first task to finish on the last a job takes at least the best time along the path, and at most the
-  -- worst if it ends inside the run.
-  pub path-responses : (q m a ticks : ℕ) → q < p .paths → At (activations p r (first (p .path q))) m a
-      → At (finishes p r (last (p .path q))) m (a + ticks)
-      → (best p q ≤ ticks) × (a + ticks ≤ r .ticks → ticks ≤ worst p R q)
+-- What a set of bounds R over input streams S claims.
+abbrev pub claimsOf : Plan → Inputs → Bounds → Claims
+claimsOf p S R =
+    record {
+      R- = λ k. p .task k .C-;
+      R+ = R;
+      input = S;
+      output = λ k. output (p .task k .C-) (S k) (R k);
+      best = best p;
+      worst = worst p R;
+    }
 
 module _ (p : Plan) (S : Inputs) (R : Bounds) (sound : Sound p) (covers : Covers p S R) (r : Run) (run : RunOf p r) where
   -- Where the input streams keep their models below tick T, the output streams keep theirs a tick further on.
@@ -66,7 +57,7 @@ module _ (p : Plan) (S : Inputs) (R : Bounds) (sound : Sound p) (covers : Covers
   inputs-keep (suc T) inside = inputs-keep-on T inside (inputs-keep T (omega arith))
 
   -- Demand 3: every figure is kept.
-  pub demand-3 : Kept p S R r
+  pub demand-3 : Kept p (claimsOf p S R) r
   demand-3 =
       record {
         in-time = λ k m a l. task k l .in-time m a;
@@ -75,8 +66,8 @@ module _ (p : Plan) (S : Inputs) (R : Bounds) (sound : Sound p) (covers : Covers
             delay-between (finishes-counted p r k) (task k l) (activations-counted p r run k l) m (response .activation) ticks
             (response .activated-then)
             (response .finished-then);
-        inputs = keep;
-        outputs = λ k l m n a b now next inside. outputs-keep (r .ticks) keep k l m n a b now next (omega arith);
+        inputs-keep = keep;
+        outputs-keep = λ k l m n a b now next inside. outputs-keep (r .ticks) keep k l m n a b now next (omega arith);
         path-in-time = λ q m a l. path q l .in-time m a;
         path-responses =
             λ q m a ticks l.

@@ -1,5 +1,5 @@
 -- Which runs there are: outside events at any ticks that trail evenly spaced moments, in order, and any costs from C- to C+.
-use Prim.Native.Nat.{ℕ, zero, suc, _+_, _≤_, _<_}
+use Prim.Native.Nat.{ℕ, zero, suc, _≤_, _<_}
 use mathlib.Core.Path.{_≡_, refl}
 use mathlib.Core.Logic.{_↔_}
 use lib.Dec.{ltb}
@@ -11,7 +11,7 @@ use native.Mathlib.Omega.{arith}
 use Rattle.paper.specs.Words.{sum, count}
 use Rattle.paper.specs.Tables.{outside, Plan}
 use Rattle.paper.specs.Streams.{Stream}
-use Rattle.paper.specs.Running.{Run, At, Counts, RunOf}
+use Rattle.paper.specs.Running.{At, Counts, RunOf}
 use Rattle.theory.specs.Numbers.Sums.{rises}
 use Rattle.theory.specs.Streams.Grid.{OnGrid, trails-keep}
 

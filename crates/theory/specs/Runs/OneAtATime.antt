@@ -2,8 +2,7 @@
 use Prim.Native.Nat.{ℕ, suc, _≤_, _<_}
 use mathlib.Core.Path.{_≡_, refl, sym, subst, _∙_}
 use mathlib.Core.Logic.{_⊎_, inl, inr}
-use mathlib.Core.Bool.{Bool, true, false, false≢true, not, _&&_}
-use lib.Dec.{eqb}
+use mathlib.Core.Bool.{Bool, true, false, false≢true, _&&_}
 use borrow.Author.Tests.{not-true, lt-ltb, eq-eqb, eqb-true}
 use native.Mathlib.Nat.{le-antisymm}
 use native.Mathlib.Decide.{decLt}
@@ -17,7 +16,7 @@ use Rattle.theory.specs.Plans.Sound.{Sound}
 use Rattle.theory.specs.Numbers.Tests.{both, some-passes, passes-or-not, passes-any}
 use Rattle.theory.specs.Runs.Rivals.{rival-is}
 use Rattle.theory.specs.Runs.Served.{running}
-use Rattle.theory.specs.Runs.Service.{Serves, serves-urgent}
+use Rattle.theory.specs.Runs.Service.{serves-urgent}
 
 -- Whether task k waits at tick t.
 abbrev pub waiting : Plan → Run → (k t : ℕ) → Bool

@@ -9,16 +9,9 @@ use Rattle.paper.specs.Tables.{Plan, fed}
 use Rattle.paper.specs.Sets.{Bounds}
 use Rattle.paper.specs.Report.{along}
 use Rattle.paper.specs.Running.{Run, activations, finishes}
+use Rattle.paper.specs.Kept.{first, last}
 use Rattle.theory.specs.Streams.Follows.{Follows, follows-on}
 use Rattle.theory.specs.Runs.Served.{activations-fed, finishes-counted}
-
--- The first task of a path.
-abbrev pub first : List ℕ → ℕ
-first path = getD path 0 0
-
--- The last task of a path.
-abbrev pub last : List ℕ → ℕ
-last path = getD path (length path - 1) 0
 
 -- The tasks of a path are linked.
 pub record Linked (p : Plan) (path : List ℕ) : Type 0 where

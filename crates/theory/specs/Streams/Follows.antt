@@ -1,6 +1,5 @@
 -- One stream follows another, event by event, with a least and a most delay: chains of such streams, and their models.
-use Prim.Native.Nat.{ℕ, zero, suc, _+_, _-_, _≤_, _<_}
-use mathlib.Core.Path.{_≡_, refl}
+use Prim.Native.Nat.{ℕ, suc, _+_, _-_, _≤_, _<_}
 use native.Mathlib.Decide.{decLe}
 use native.Mathlib.Omega.{arith}
 use Rattle.paper.specs.Streams.{Stream, delayed}

@@ -1,6 +1,6 @@
 -- `report::records::heading` meets its contract.
 use borrow.Author.Needs.{needs}
-use Rattle.theory.specs.ReportLength.{bytes-length}
+use Rattle.theory.specs.Bytes.{bytes-length}
 use Rattle.report.proofs.Laws.{more}
 use Rattle.report.proofs.records.heading.Statement.{statement}
 use Rattle.report.proofs.records.heading.Tie as tie

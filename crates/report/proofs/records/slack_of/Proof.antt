@@ -4,7 +4,7 @@ use Prim.Native.Nat.{_-_}
 use mathlib.Core.Path.{_∙_, sym, ap}
 use native.Mathlib.Omega.{arith}
 use Rattle.paper.specs.Bytes.{bytes, difference}
-use Rattle.report.proofs.Laws.{bytes-over}
+use Rattle.theory.specs.Bytes.{bytes-over}
 use Rattle.report.proofs.records.slack_of.Statement.{statement}
 use Rattle.report.proofs.records.slack_of.Tie as tie
 
