@@ -12,7 +12,7 @@ use Rattle.paper.specs.Tables.{Plan, planOf}
 use Rattle.paper.specs.Refusals.{WellFormed}
 use Rattle.paper.specs.Streams.{delayed}
 use Rattle.paper.specs.Windows.{output}
-use Rattle.paper.specs.Sets.{Bounds, inputs, LeastSet}
+use Rattle.paper.specs.Sets.{Bounds, inputs, Consistent, LeastSet}
 use Rattle.paper.specs.Load.{period, Overloaded}
 use Rattle.paper.specs.Report.{Figures, verdict, along, worst, report, reportLength}
 use Rattle.paper.specs.Running.{Run, RunOf, At, Response, Keeps, activations, finishes}
@@ -24,7 +24,7 @@ use Rattle.theory.specs.Plans.WellFormed.{well-formed→sound, well-formed→ra
 use Rattle.theory.specs.Sweeps.Climbs.{proper}
 use Rattle.theory.specs.Plans.Inputs.{period-law}
 use Rattle.theory.specs.Runs.Paths.{first, last}
-use Rattle.theory.specs.Promise.{sweeps-few, kept}
+use Rattle.theory.specs.Promise.{least-of-all, sweeps-few, kept}
 use Rattle.bench.specs.Figures.{Fitting, Stands, report-stands, R-In, R+In, inputIn, outputIn, bestIn, worstIn}
 use Rattle.bench.specs.Numbers.{unread-number, unsound-number}
 
@@ -113,6 +113,14 @@ pub accepted-least : {s : Bytes} {room : ℕ} {a : Answer} {out : Bytes} → Due
 accepted-least due zero =
     let says = accepted-says due zero in
     (says .figures .R, says .reported .least, says .stands .R+)
+
+-- The bounds that stand in the report of an accepted plan are no larger, task by task, than any consistent set, within limits or
+-- not.
+pub accepted-least-of-all : {s : Bytes} {room : ℕ} {a : Answer} {out : Bytes} → Due s room a out → a .number ≡ 0
+    → (R′ : Bounds) → Consistent (planOf s) R′ → (k : ℕ) → k < planOf s .tasks → R+In out k ≤ R′ k
+accepted-least-of-all due zero R′ consistent k l =
+    let says = accepted-says due zero in
+    rw (says .stands .R+ k l) (least-of-all (says .well) (says .reported .settles) R′ consistent k l)
 
 -- Demand 3 of the numbers in the bytes `out`, read where document 01 puts them.
 pub record KeptIn (p : Plan) (out : Bytes) (r : Run) : Type 0 where
