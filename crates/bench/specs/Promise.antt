@@ -1,31 +1,36 @@
 -- The promise over bytes: what an answer of 0 says, and demand 3 of the numbers that stand in the report.
-use Prim.Native.Nat.{ℕ, suc, _-_, _*_, _≤_, _<_}
-use mathlib.Core.Path.{_≡_, refl}
+use Prim.Native.Nat.{ℕ, suc, _+_, _-_, _*_, _≤_, _<_}
+use mathlib.Core.Path.{_≡_, refl, sym, _∙_}
+use mathlib.Core.Logic.{inl, inr}
 use mathlib.Core.Bool.{Bool, true, false, cond}
 use mathlib.Core.List.{List, [], _∷_, _++_}
 use lib.Dec.{leb}
 use lib.ListN.{length, getD}
 use native.Mathlib.Omega.{arith}
+use borrow.Author.Tests.{leb-true}
 use Rattle.paper.specs.Limits.{most-ticks}
 use Rattle.paper.specs.Bytes.{Bytes}
 use Rattle.paper.specs.Tables.{planOf}
 use Rattle.paper.specs.Refusals.{WellFormed}
 use Rattle.paper.specs.Streams.{delayed}
 use Rattle.paper.specs.Windows.{output}
-use Rattle.paper.specs.Sets.{Bounds, inputs, LeastSet}
+use Rattle.paper.specs.Sets.{Bounds, inputs, Consistent, LeastSet}
 use Rattle.paper.specs.Load.{period, Overloaded}
 use Rattle.paper.specs.Report.{Figures, verdict, along, worst, report, reportLength}
-use Rattle.paper.specs.Running.{Run, RunOf}
-use Rattle.paper.specs.Places.{R+In, Stands}
-use Rattle.paper.specs.Kept.{claimsIn, Kept}
+use Rattle.paper.specs.Running.{Run, activations, finishes, At, RunOf}
+use Rattle.paper.specs.Places.{R+In, verdictIn, worstIn, Stands}
+use Rattle.paper.specs.Kept.{first, last, claimsIn, Kept}
 use Rattle.paper.specs.Answer.{Answer, blank, Reported, Due, unread, unsound, short, overload, unbounded, accepted}
 use Rattle.theory.specs.Numbers.Least.{least-one}
 use Rattle.theory.specs.Numbers.Sums.{sum-most}
+use Rattle.theory.specs.Numbers.Tests.{passes-or-not}
+use Rattle.theory.specs.Streams.Counts.{counts-rise}
+use Rattle.theory.specs.Runs.Served.{finishes-counted}
 use Rattle.theory.specs.Task.Preemptive.{bounded-most}
 use Rattle.theory.specs.Plans.WellFormed.{well-formed→sound, well-formed→ranged}
 use Rattle.theory.specs.Sweeps.Climbs.{proper}
 use Rattle.theory.specs.Plans.Inputs.{period-law}
-use Rattle.theory.specs.Promise.{sweeps-few, kept}
+use Rattle.theory.specs.Promise.{least-of-all, sweeps-few, kept}
 use Rattle.bench.specs.Figures.{Fitting, report-stands}
 use Rattle.bench.specs.Numbers.{unread-number, unsound-number}
 
@@ -41,6 +46,15 @@ along-most (k ∷ path) f most each =
 verdict-small : (b : Bool) → cond b 1 2 ≤ 2
 verdict-small true = omega arith
 verdict-small false = omega arith
+
+-- A path that meets its deadline has a worst time that is no longer.
+verdict-meets : (deadline worst-time : ℕ) → verdict deadline worst-time ≡ 1 → worst-time ≤ deadline
+unfolding verdict
+verdict-meets deadline worst-time e =
+    elim (passes-or-not (leb worst-time deadline)) [
+      | inl passes ↦ leb-true _ _ passes
+      | inr fails ↦ absurd (omega (arith, rw fails at e))
+    ]
 
 -- The figures that may be reported of a well-formed plan fit their bytes in the report.
 fitting : {s : Bytes} {f : Figures} → WellFormed s → Reported (planOf s) f → Fitting (planOf s) f
@@ -117,6 +131,14 @@ accepted-least due zero =
     let says = accepted-says due zero in
     (says .figures .R, says .reported .least, says .stands .R+)
 
+-- The bounds that stand in the report of an accepted plan are no larger, task by task, than any consistent set, within limits or
+-- not.
+pub accepted-least-of-all : {s : Bytes} {room : ℕ} {a : Answer} {out : Bytes} → Due s room a out → a .number ≡ 0
+    → (R′ : Bounds) → Consistent (planOf s) R′ → (k : ℕ) → k < planOf s .tasks → R+In out k ≤ R′ k
+accepted-least-of-all due zero R′ consistent k l =
+    let says = accepted-says due zero in
+    rw (says .stands .R+ k l) (least-of-all (says .well) (says .reported .settles) R′ consistent k l)
+
 -- The promise: whatever bytes the entry accepts as a plan, with whatever room, and whatever run of that plan, of any length, the
 -- run keeps every number that stands in the report.
 pub promise : {s : Bytes} {room : ℕ} {a : Answer} {out : Bytes} → Due s room a out → a .number ≡ 0
@@ -139,3 +161,23 @@ promise {s} {room} {a} {out} due zero r run =
       path-in-time = λ q m a l. rw (stands .worsts q l) (so .path-in-time q m a l);
       path-responses = λ q m a ticks l. rw (stands .bests q l, stands .worsts q l) (so .path-responses q m a ticks l);
     }
+
+-- A path that is said to meet its deadline meets it in every run: a job is finished on its last task once the deadline has passed
+-- since its activation on the first, if the run lasts that long.
+pub met : {s : Bytes} {room : ℕ} {a : Answer} {out : Bytes} → Due s room a out → a .number ≡ 0
+    → (r : Run) → RunOf (planOf s) r → (q m t : ℕ) → q < planOf s .paths → verdictIn out (planOf s .tasks) q ≡ 1
+    → At (activations (planOf s) r (first (planOf s .path q))) m t → t + planOf s .deadline q ≤ r .ticks
+    → m < finishes (planOf s) r (last (planOf s .path q)) (suc (t + planOf s .deadline q))
+met {s} {room} {a} {out} due zero r run q m t l meets now inside =
+    let says = accepted-says due zero in
+    let p = planOf s in
+    let in-time : worst p (says .figures .R) q ≤ p .deadline q =
+    verdict-meets (p .deadline q) (worst p (says .figures .R) q) (sym (says .stands .verdicts q l) ∙ meets) in
+    let worst-is = says .stands .worsts q l in
+    let done = promise due zero r run .path-in-time q m t l now (omega arith) in
+    omega (
+      arith,
+      done,
+      counts-rise (finishes-counted p r (last (p .path q))) (suc (t + worstIn out (p .tasks) q)) (suc (t + p .deadline q))
+          (omega arith),
+    )

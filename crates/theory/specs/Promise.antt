@@ -1,12 +1,12 @@
 -- Demands 2 and 3 for a well-formed plan, in the document's words.
-use Prim.Native.Nat.{ℕ, _+_, _-_, _≤_}
+use Prim.Native.Nat.{ℕ, _+_, _-_, _≤_, _<_}
 use mathlib.Core.Path.{sym, subst}
 use mathlib.Core.Logic.{_⊎_, _↔_}
 use Rattle.paper.specs.Words.{sum}
 use Rattle.paper.specs.Bytes.{Bytes}
 use Rattle.paper.specs.Tables.{Plan, planOf}
 use Rattle.paper.specs.Refusals.{WellFormed}
-use Rattle.paper.specs.Sets.{Bounds, inputs, Fits, LeastSet}
+use Rattle.paper.specs.Sets.{Bounds, inputs, Consistent, Fits, LeastSet}
 use Rattle.paper.specs.Sweeps.{Settles, Leaving}
 use Rattle.paper.specs.Running.{Run, RunOf}
 use Rattle.paper.specs.Kept.{Kept}
@@ -44,6 +44,11 @@ module _ {s : Bytes} (well : WellFormed s) where
   -- The set in which the sweeps settle is the least consistent set within limits.
   pub settled-least : {m : ℕ} {R : Bounds} → Settles (planOf s) m R → LeastSet (planOf s) R
   settled-least = Demand2.settled-least (planOf s) (climbing (planOf s) (well-formed→sound s well))
+
+  -- The set in which the sweeps settle is no larger, task by task, than any consistent set, within limits or not.
+  pub least-of-all : {m : ℕ} {R : Bounds} → Settles (planOf s) m R
+      → (R′ : Bounds) → Consistent (planOf s) R′ → (k : ℕ) → k < planOf s .tasks → R k ≤ R′ k
+  least-of-all = Demand2.least-of-all (planOf s) (climbing (planOf s) (well-formed→sound s well))
 
   -- The number of the first sweep that changes nothing is never above 1 plus the sum over tasks of R+ - C+.
   pub sweeps-few : {m : ℕ} {R : Bounds} → Settles (planOf s) m R

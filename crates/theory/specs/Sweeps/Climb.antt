@@ -12,7 +12,9 @@ use Rattle.paper.specs.Sets.{Bounds}
 pub record Equations : Type 1 where
   pub tasks : ℕ
   pub start : Bounds
-  -- Worked out from a set, a task's new bound is that number, within limits.
+  -- Worked out from a set, a task's new bound is that number, limits aside;
+  pub Gives : (from : Bounds) (task bound : ℕ) → Type 0
+  -- it is that number, and all is within limits.
   pub Step : (from : Bounds) (task bound : ℕ) → Type 0
 
 -- Task by task, a set is no larger than another.
@@ -25,14 +27,16 @@ Same tasks R R′ = (k : ℕ) → k < tasks → R k ≡ R′ k
 
 -- What the sweeps rest on, with bounds of at most `top`.
 pub record Climbing (e : Equations) (top : ℕ) : Type 0 where
-  -- The new bound is one number.
-  pub single : (R : Bounds) (k r r′ : ℕ) → k < e .tasks → e .Step R k r → e .Step R k r′ → r ≡ r′
-  -- Where a set gives a bound within limits, a smaller set gives one that is no larger.
-  pub smaller : (R R′ : Bounds) (k r′ : ℕ) → Below (e .tasks) R R′ → k < e .tasks → e .Step R′ k r′
-      → (r : ℕ) × e .Step R k r × (r ≤ r′)
-  -- No bound is below the one to start with,
-  pub least : (R : Bounds) (k r : ℕ) → k < e .tasks → e .Step R k r → e .start k ≤ r
-  -- and none is above the top.
+  -- A bound within limits is the bound limits aside.
+  pub given : (R : Bounds) (k r : ℕ) → k < e .tasks → e .Step R k r → e .Gives R k r
+  -- From a set no larger the new bound is no larger, limits aside,
+  pub grows : (R R′ : Bounds) (k r r′ : ℕ) → Below (e .tasks) R R′ → k < e .tasks → e .Gives R k r → e .Gives R′ k r′
+      → r ≤ r′
+  -- and there is one within limits where there is from the other.
+  pub smaller : (R R′ : Bounds) (k r′ : ℕ) → Below (e .tasks) R R′ → k < e .tasks → e .Step R′ k r′ → (r : ℕ) × e .Step R k r
+  -- No bound is below the one to start with, limits aside,
+  pub least : (R : Bounds) (k r : ℕ) → k < e .tasks → e .Gives R k r → e .start k ≤ r
+  -- and none within limits is above the top.
   pub bounded : (R : Bounds) (k r : ℕ) → k < e .tasks → e .Step R k r → r ≤ top
   -- There is a new bound within limits, or there is none.
   pub decided : (R : Bounds) (k : ℕ) → k < e .tasks → ((r : ℕ) × e .Step R k r) ⊎ ((r : ℕ) → e .Step R k r → ⊥)
@@ -70,6 +74,14 @@ LeavesIn e (suc m) k = (old : Bounds) × Swept e m old × Leaves e old k
 pub record Leaving (e : Equations) (m k : ℕ) : Type 0 where
   pub first : IsLeast (λ m. (k : ℕ) × LeavesIn e m k) m
   pub lowest : IsLeast (LeavesIn e m) k
+
+-- A set leads, by the equations, to another, limits aside.
+abbrev pub Leads : Equations → Bounds → Bounds → Type 0
+Leads e R R′ = (k : ℕ) → k < e .tasks → e .Gives R k (R′ k)
+
+-- A consistent set, within limits or not: it leads back to itself.
+abbrev pub Consistent : Equations → Bounds → Type 0
+Consistent e R = Leads e R R
 
 -- A consistent set within limits: a sweep works it out from itself.
 abbrev pub Fits : Equations → Bounds → Type 0

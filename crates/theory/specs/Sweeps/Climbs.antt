@@ -1,5 +1,5 @@
--- The sweeps of a sound plan climb: a task's new bound is one number at most, grows with the set, and lies between C+ and a
--- limit.
+-- The sweeps of a sound plan climb: a task's new bound grows with the set and is no smaller than C+, limits aside, and no
+-- larger than a limit within them.
 use Prim.Native.Nat.{ℕ, zero, suc, _≤_, _<_}
 use mathlib.Core.Path.{_≡_, refl}
 use mathlib.Core.Logic.{inl, inr}
@@ -13,7 +13,7 @@ use Rattle.theory.specs.Plans.Sound.{Sound}
 use Rattle.theory.specs.Numbers.Sums.{sum-mono}
 use Rattle.theory.specs.Streams.Counting.{_⊑_, Milder, milder-refl, milder-output, mostEvents-grows}
 use Rattle.theory.specs.Task.Demand.{Proper, _≼_}
-use Rattle.theory.specs.Task.Preemptive.{bounded-one, bounded-smaller, bounded-least, bounded-most, bounded-decided}
+use Rattle.theory.specs.Task.Preemptive.{bound-grows, bound-least, bounded-milder, bounded-most, bounded-decided}
 use Rattle.theory.specs.Sweeps.Climb.{Below, Climbing}
 use Rattle.theory.specs.Sweeps.Demand2.Bridge.{equations}
 
@@ -77,18 +77,22 @@ module _ (p : Plan) (sound : Sound p) where
   pub proper : (S : Inputs) (k : ℕ) → k < p .tasks → Proper (setting p S k)
   proper S k h = setting-proper p S k (some-C+ k h)
 
+  -- A set no larger makes a counted task's setting milder.
+  set-milder : (R R′ : Bounds) (k : ℕ) → Below (p .tasks) R R′ → k < p .tasks
+      → setting p (inputs p R) k ≼ setting p (inputs p R′) k
+  set-milder R R′ k l h = setting-milder p (inputs p R) (inputs p R′) k h (inputs-milder R R′ l)
+
   -- The sweeps of a sound plan climb.
   pub climbing : Climbing (equations p) most-ticks
   climbing =
       record {
-        single = λ R k r r′ h s s′. bounded-one (s .1) (s′ .1) .0;
+        given = λ R k r h s. (s .0, s .1 .bound);
+        grows = λ R R′ k r r′ l h g g′.
+            bound-grows (proper (inputs p R) k h) (proper (inputs p R′) k h) (set-milder R R′ k l h) (g .1) (g′ .1);
         smaller = λ R R′ k r′ l h s.
-            let S = inputs p R in
-            let S′ = inputs p R′ in
-            let m = setting-milder p S S′ k h (inputs-milder R R′ l) in
-            let b = bounded-smaller (proper S k h) (proper S′ k h) m (s .1) in
-            (b .0, (b .1, b .2), b .3);
-        least = λ R k r h s. bounded-least (proper (inputs p R) k h) (s .1);
+            let b = bounded-milder (proper (inputs p R) k h) (proper (inputs p R′) k h) (set-milder R R′ k l h) (s .1) in
+            (b .0, (b .1, b .2));
+        least = λ R k r h g. bound-least (proper (inputs p R) k h) (g .1);
         bounded = λ R k r h s. bounded-most (proper (inputs p R) k h) (s .1);
         decided = λ R k h.
             elim (bounded-decided (proper (inputs p R) k h)) [

@@ -1,5 +1,5 @@
--- Demand 2 for a plan, given the laws of its equations: the sweeps settle in the least consistent set within limits, and
--- leave the limits exactly when there is none.
+-- Demand 2 for a plan, given the laws of its equations: the sweeps settle in the least consistent set, which is within limits,
+-- and leave the limits exactly when no consistent set is within them.
 pub mod Bridge
 use Prim.Native.Nat.{ℕ, zero, suc, _+_, _-_, _*_, _≤_}
 use mathlib.Core.Path.{_≡_}
@@ -7,11 +7,11 @@ use mathlib.Core.Logic.{_⊎_, ⊎-map, _↔_, Iff·symm, Iff·trans}
 use Rattle.paper.specs.Words.{IsLeast, sum}
 use Rattle.paper.specs.Limits.{most-ticks}
 use Rattle.paper.specs.Tables.{Plan}
-use Rattle.paper.specs.Sets.{Bounds, inputs, Fits, LeastSet}
+use Rattle.paper.specs.Sets.{Bounds, inputs, Consistent, Fits, LeastSet}
 use Rattle.paper.specs.Sweeps.{Sweep, Settles, Leaves, Leaving}
 use Rattle.theory.specs.Numbers.Least.{least-same}
 use Rattle.theory.specs.Sweeps.Climb
-use Rattle.theory.specs.Sweeps.Climb.{Same, Climbing}
+use Rattle.theory.specs.Sweeps.Climb.{Below, Same, Climbing}
 use Bridge.{equations, some, some-two, settles, leaves, leaving, fits, least-set}
 
 -- After m sweeps of a plan, each of which changed something, the set is R.
@@ -48,6 +48,10 @@ module _ (p : Plan) (laws : Climbing (equations p) most-ticks) where
   -- "The report gives the least consistent set within limits": it is the set in which the sweeps settle.
   pub settled-least : {m : ℕ} {R : Bounds} → Settles p m R → LeastSet p R
   settled-least {m} {R} t = least-set p R .1 (Climb.Outcome.settled-least laws (settles p m R .0 t))
+
+  -- It is below every consistent set, within limits or not.
+  pub least-of-all : {m : ℕ} {R : Bounds} → Settles p m R → (R′ : Bounds) → Consistent p R′ → Below (p .tasks) R R′
+  least-of-all {m} {R} t = Climb.Outcome.least-of-all laws (settles p m R .0 t)
 
   -- The sweeps settle, or leave the limits,
   pub decided : ((m : ℕ) × (R : Bounds) × Settles p m R) ⊎ ((m : ℕ) × (k : ℕ) × Leaving p m k)

@@ -75,6 +75,8 @@ module _ (𝓟 : Policy) where
     pub jobs-milder : (i i′ : Input) (n′ : ℕ) → Milder i i′ → Jobs i′ n′ → (n : ℕ) × Jobs i n × (n ≤ n′)
     -- Whether there are jobs to look at, few enough, can be decided.
     pub jobs-decided : (i : Input) → Dec ((n : ℕ) × Jobs i n × (n ≤ most))
+    -- There is a window for each of the jobs looked at.
+    pub jobs-windows : (i : Input) (n : ℕ) → Jobs i n → Every n (λ q. (B : ℕ) × Window i q B)
     -- A single job has no distance.
     pub dist-one : (i : Input) → dist i 1 ≡ 0
     -- The jobs of a milder input lie no closer.
@@ -100,10 +102,10 @@ module _ {𝓟 : Policy} (laws : Laws 𝓟) where
       let y : DelayUnder 𝓟 i n (B - dist i q) = record { q = q; first = a; last = l; B = B; window = w; is = refl } in
       omega (arith, b .largest .largest (B - dist i q) y)
 
-  -- Where there is a window for each of the jobs looked at, there is a bound.
-  pub under-exists : (i : Input) (n : ℕ) → Jobs i n → Every n (λ q. (B : ℕ) × Window i q B) → (R : ℕ) × BoundUnder 𝓟 i R n
-  under-exists i n jobs windows =
-      let chosen = every-chosen {P = Window i} n windows in
+  -- Where there are jobs to look at, there is a bound.
+  pub under-exists : (i : Input) (n : ℕ) → Jobs i n → (R : ℕ) × BoundUnder 𝓟 i R n
+  under-exists i n jobs =
+      let chosen = every-chosen {P = Window i} n (laws .jobs-windows i n jobs) in
       let B = chosen .0 in
       let peak = every-peak (λ q. B q - dist i q) n (laws .jobs-some i n jobs) in
       let q = peak .0 in
@@ -115,46 +117,42 @@ module _ {𝓟 : Policy} (laws : Laws 𝓟) where
       omega (arith, peak .3 (y .q) (y .first) (y .last)) in
       (B q - dist i q, record { jobs = jobs; largest = record { holds = peak-delay; largest = none-larger } })
 
-  -- A milder input has each window looked at for the other, within limits and covered by the other's bound.
-  windows-milder : {i i′ : Input} {R′ n′ : ℕ} → Milder i i′ → BoundedUnder 𝓟 i′ R′ n′
-      → Every n′ (λ q. (B : ℕ) × Window i q B × (B ≤ top) × (B ≤ R′ + dist i q))
-  windows-milder {i} {i′} m b q a l =
-      let w′ = b .windows q a l in
-      let w = laws .window-milder i i′ q (w′ .0) m a (w′ .1) in
-      let c = under-covers (b .bound) q (w′ .0) a l (w′ .1) in
-      (w .0, w .1, omega arith, omega (arith, laws .dist-milder i i′ q m))
+  -- The bound of a milder input is no larger, limits aside.
+  pub under-grows : {i i′ : Input} {R R′ n n′ : ℕ} → Milder i i′ → BoundUnder 𝓟 i R n → BoundUnder 𝓟 i′ R′ n′ → R ≤ R′
+  under-grows {i} {i′} {n = n} {n′} m b b′ =
+      let y = b .largest .holds in
+      let j = laws .jobs-milder i i′ n′ m (b′ .jobs) in
+      let few : y .q ≤ n′ = omega (arith, laws .jobs-one i n (j .0) (b .jobs) (j .1)) in
+      let w′ = laws .jobs-windows i′ n′ (b′ .jobs) (y .q) (y .first) few in
+      let w = laws .window-milder i i′ (y .q) (w′ .0) m (y .first) (w′ .1) in
+      let c = under-covers b′ (y .q) (w′ .0) (y .first) few (w′ .1) in
+      omega (arith, laws .window-one i (y .q) (y .B) (w .0) (y .window) (w .1), laws .dist-milder i i′ (y .q) m)
 
-  -- A milder input has a bound within limits where the other has, no larger and with no more jobs looked at.
+  -- A milder input has a bound within limits where the other has.
   pub under-milder : {i i′ : Input} {R′ n′ : ℕ} → Milder i i′ → BoundedUnder 𝓟 i′ R′ n′
-      → (R : ℕ) × (n : ℕ) × BoundedUnder 𝓟 i R n × (R ≤ R′) × (n ≤ n′)
+      → (R : ℕ) × (n : ℕ) × BoundedUnder 𝓟 i R n
   under-milder {i} {i′} {R′} {n′} m b =
       let j = laws .jobs-milder i i′ n′ m (b .bound .jobs) in
       let n = j .0 in
-      let window : Every n (λ q. (B : ℕ) × Window i q B × (B ≤ top) × (B ≤ R′ + dist i q)) =
-      λ q a l. windows-milder m b q a (omega arith) in
-      let r = under-exists i n (j .1) (λ q a l. (window q a l .0, window q a l .1)) in
+      let r = under-exists i n (j .1) in
       let R = r .0 in
-      let y = r .1 .largest .holds in
-      let w = window (y .q) (y .first) (y .last) in
-      let smaller : R ≤ R′ = omega (arith, laws .window-one i (y .q) (y .B) (w .0) (y .window) (w .1)) in
-      let bounded : BoundedUnder 𝓟 i R n =
-      record {
-        bound = r .1;
-        few = omega arith;
-        windows = λ q a l. (window q a l .0, window q a l .1, window q a l .2);
-        jitters = laws .jitters-milder i i′ R R′ m smaller (b .jitters);
-      } in
-      (R, n, bounded, smaller, j .2)
+      let windows : WindowsUnder 𝓟 i n =
+      λ q a l.
+      let w′ = b .windows q a (omega arith) in
+      let w = laws .window-milder i i′ q (w′ .0) m a (w′ .1) in
+      (w .0, w .1, omega arith) in
+      let jitters = laws .jitters-milder i i′ R R′ m (under-grows m (r .1) (b .bound)) (b .jitters) in
+      (R, n, record { bound = r .1; few = omega arith; windows = windows; jitters = jitters })
 
   -- The bound is no smaller than the cost,
-  pub under-least : {i : Input} {R n : ℕ} → BoundedUnder 𝓟 i R n → cost i ≤ R
+  pub under-least : {i : Input} {R n : ℕ} → BoundUnder 𝓟 i R n → cost i ≤ R
   under-least {i} {n = n} b =
-      let some = laws .jobs-some i n (b .bound .jobs) in
-      let w = b .windows 1 (le-refl _) some in
-      let c = under-covers (b .bound) 1 (w .0) (le-refl _) some (w .1) in
+      let some = laws .jobs-some i n (b .jobs) in
+      let w = laws .jobs-windows i n (b .jobs) 1 (le-refl _) some in
+      let c = under-covers b 1 (w .0) (le-refl _) some (w .1) in
       omega (arith, laws .dist-one i, laws .window-cost i (w .0) (w .1))
 
-  -- and no larger than the longest window within limits.
+  -- and within limits no larger than the longest window.
   pub under-most : {i : Input} {R n : ℕ} → BoundedUnder 𝓟 i R n → R ≤ top
   under-most {i} b =
       let y = b .bound .largest .holds in
@@ -165,7 +163,7 @@ module _ {𝓟 : Policy} (laws : Laws 𝓟) where
   bound-decided : (i : Input) (n : ℕ) → Jobs i n → n ≤ most → WindowsUnder 𝓟 i n
       → Dec ((R : ℕ) × (n : ℕ) × BoundedUnder 𝓟 i R n)
   bound-decided i n jobs few windows =
-      let r = under-exists i n jobs (λ q a l. (windows q a l .0, windows q a l .1)) in
+      let r = under-exists i n jobs in
       elim (laws .jitters-decided i (r .0)) [
         | yes jitters ↦ yes (r .0, n, record { bound = r .1; few = few; windows = windows; jitters = jitters })
         | no none ↦ no (λ b. none (subst (Jitters i) (under-one (b .2 .bound) (r .1) .0) (b .2 .jitters)))

@@ -2,7 +2,7 @@
 use Prim.Native.Nat.{ℕ, suc, _+_, _*_, _≤_}
 use mathlib.Core.Path.{_≡_, ap, subst}
 use mathlib.Core.Logic.{⊎-elim}
-use native.Mathlib.Nat.{le-refl}
+use native.Mathlib.Nat.{le-refl, mul-le-mul-right}
 use native.Mathlib.Decide.{map-dec, decLe}
 use native.Mathlib.Omega.{arith}
 use Rattle.paper.specs.Words.{IsLargest}
@@ -10,11 +10,11 @@ use Rattle.paper.specs.Limits.{most-ticks, most-jobs}
 use Rattle.paper.specs.Streams.{d}
 use Rattle.paper.specs.Windows.{Setting, Window, Ends, Jobs, Delay, Bound, output, Bounded}
 use Rattle.theory.specs.Numbers.Least.{least-one, largest-one, search-least}
-use Rattle.theory.specs.Numbers.Ranges.{every-chosen}
+use Rattle.theory.specs.Numbers.Ranges.{Every, every-chosen}
 use Rattle.theory.specs.Numbers.FixedPoints.{fixed-decided, fixed-smaller}
 use Rattle.theory.specs.Streams.Counting.{milder-output, d-one, d-falls}
 use Rattle.theory.specs.Task.Policy.{Policy, Laws, DelayUnder, BoundUnder, BoundedUnder}
-use Rattle.theory.specs.Task.Policy.{under-covers, under-milder, under-least, under-most, under-decided}
+use Rattle.theory.specs.Task.Policy.{under-covers, under-grows, under-milder, under-least, under-most, under-decided}
 use Rattle.theory.specs.Task.Demand.{Proper, _≼_, Inequalities, demand-rises}
 
 -- A proper setting.
@@ -103,6 +103,13 @@ window-milder : (i i′ : Input) (q B′ : ℕ) → i .0 ≼ i′ .0 → 1 ≤ q
 window-milder i i′ q B′ m a =
     fixed-smaller (demand-rises (i .1) q a) (λ t. omega (arith, m .interference t, ap (λ C. q * C) (m .most)))
 
+-- There is a window for each of the jobs looked at: there is one for the last, and fewer jobs demand no more.
+jobs-windows : (i : Input) (n : ℕ) → Jobs (i .0) n → Every n (λ q. (B : ℕ) × Window (i .0) q B)
+jobs-windows i n j q a l =
+    let fewer = mul-le-mul-right (i .0 .C+) l in
+    let w = fixed-smaller (demand-rises (i .1) q a) (λ t. omega (arith, fewer)) (j .holds .1 .window) in
+    (w .0, w .1)
+
 -- Whether d(q+1) is at least B(q) can be decided.
 ends-decided : (i : Input) (q : ℕ) → Dec ((1 ≤ q) × Ends (i .0) q)
 ends-decided i q =
@@ -163,6 +170,7 @@ preemptive-laws =
       jobs-some = λ i n j. j .holds .0;
       jobs-milder = jobs-milder;
       jobs-decided = λ i. jobs-decided i most-jobs;
+      jobs-windows = jobs-windows;
       dist-one = λ i. d-one (i .0 .input);
       dist-milder = λ i i′ q m. d-falls (i .0 .input) (i′ .0 .input) q (m .input);
       jitters-milder = λ i i′ R R′ m h l.
@@ -182,20 +190,23 @@ bound-one {k} {R} {n = n} {n′} b b′ =
 pub bounded-one : {k : Setting} {R R′ n n′ : ℕ} → Bounded k R n → Bounded k R′ n′ → (R ≡ R′) × (n ≡ n′)
 bounded-one b b′ = bound-one (b .bound) (b′ .bound)
 
--- For a milder setting a task has a bound within limits where it has for the other, no larger and with no more jobs looked
--- at.
-pub bounded-smaller : {k k′ : Setting} {R′ n′ : ℕ} → Proper k → Proper k′ → k ≼ k′ → Bounded k′ R′ n′
-    → (R : ℕ) × (n : ℕ) × Bounded k R n × (R ≤ R′) × (n ≤ n′)
-bounded-smaller {k} {k′} proper proper′ m b =
-    let r = under-milder preemptive-laws {i = (k, proper)} {i′ = (k′, proper′)} m (bounded-under (k′, proper′) b) in
-    (r .0, r .1, under-bounded (k, proper) (r .2), r .3, r .4)
+module _ {k k′ : Setting} (proper : Proper k) (proper′ : Proper k′) (milder : k ≼ k′) where
+  -- For a milder setting a task's bound is no larger, limits aside,
+  pub bound-grows : {R R′ n n′ : ℕ} → Bound k R n → Bound k′ R′ n′ → R ≤ R′
+  bound-grows b b′ = under-grows preemptive-laws milder (bound-under (k, proper) b) (bound-under (k′, proper′) b′)
+
+  -- and there is one within limits where there is for the other.
+  pub bounded-milder : {R′ n′ : ℕ} → Bounded k′ R′ n′ → (R : ℕ) × (n : ℕ) × Bounded k R n
+  bounded-milder b =
+      let r = under-milder preemptive-laws {i = (k, proper)} milder (bounded-under (k′, proper′) b) in
+      (r .0, r .1, under-bounded (k, proper) (r .2))
 
 module _ {k : Setting} (proper : Proper k) where
   -- A task's bound is no smaller than C+,
-  pub bounded-least : {R n : ℕ} → Bounded k R n → k .C+ ≤ R
-  bounded-least b = under-least preemptive-laws (bounded-under (k, proper) b)
+  pub bound-least : {R n : ℕ} → Bound k R n → k .C+ ≤ R
+  bound-least b = under-least preemptive-laws (bound-under (k, proper) b)
 
-  -- and no larger than a window may be.
+  -- and within limits no larger than a window may be.
   pub bounded-most : {R n : ℕ} → Bounded k R n → R ≤ most-ticks
   bounded-most b = under-most preemptive-laws (bounded-under (k, proper) b)
 

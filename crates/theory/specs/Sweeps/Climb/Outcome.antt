@@ -9,8 +9,21 @@ use Rattle.paper.specs.Words.{IsLeast, sum}
 use Rattle.paper.specs.Sets.{Bounds}
 use Rattle.theory.specs.Numbers.Least.{least-one, search-least}
 use Rattle.theory.specs.Numbers.Sums.{sum-ext, sum-grows}
-use Rattle.theory.specs.Sweeps.Climb.{Equations, Same, Climbing, Sweep, Settles, Leaves, LeavesIn, Leaving, Fits, LeastSet}
-use Rattle.theory.specs.Sweeps.Climb.Growth.{leaves-mono, swept-mono, swept-below}
+use Rattle.theory.specs.Sweeps.Climb.{
+  Equations,
+  Below,
+  Same,
+  Climbing,
+  Sweep,
+  Settles,
+  Leaves,
+  LeavesIn,
+  Leaving,
+  Consistent,
+  Fits,
+  LeastSet,
+}
+use Rattle.theory.specs.Sweeps.Climb.Growth.{sweep-leads, leaves-mono, swept-mono, swept-below}
 use Rattle.theory.specs.Sweeps.Climb.Reached.{
   Reached,
   reached-start,
@@ -23,18 +36,23 @@ use Rattle.theory.specs.Sweeps.Climb.Reached.{
 }
 
 module _ {e : Equations} {top : ℕ} (laws : Climbing e top) where
+  -- The set in which the sweeps settle is below every consistent set, within limits or not.
+  pub least-of-all : {m : ℕ} {R : Bounds} → Settles e m R → (F : Bounds) → Consistent e F → Below (e .tasks) R F
+  least-of-all {m = zero} t F c = absurd (t .unchanged)
+  least-of-all {m = suc m} {R} t F c = swept-below laws m R F (t .unchanged .0) c
+
   -- The sweeps settle in the least consistent set within limits.
   pub settled-least : {m : ℕ} {R : Bounds} → Settles e m R → LeastSet e R
   settled-least {m = zero} t = absurd (t .unchanged)
-  settled-least {m = suc m} {R} t =
-      let u = t .unchanged in
-      record { fits = u .1; least = λ F f. swept-below laws m R F (u .0) f }
+  settled-least {m = suc m} t =
+      record { fits = t .unchanged .1; least = λ F f. least-of-all t F (sweep-leads laws F F f) }
 
   -- Where there is a consistent set within limits, no task ever leaves them.
   pub fits-stays : (F : Bounds) → Fits e F → (m k : ℕ) → LeavesIn e m k → ⊥
   fits-stays F f zero k o = o
   fits-stays F f (suc m) k o =
-      leaves-mono laws (o .0) F k (swept-below laws m (o .0) F (o .1) f) (o .2) .outside (F k) (f k (o .2 .counted))
+      let below = swept-below laws m (o .0) F (o .1) (sweep-leads laws F F f) in
+      leaves-mono laws (o .0) F k below (o .2) .outside (F k) (f k (o .2 .counted))
 
   -- The sweeps never both settle and leave the limits.
   pub never-both : {m m′ k : ℕ} {R : Bounds} → Settles e m R → Leaving e m′ k → ⊥

@@ -3,18 +3,22 @@ use Prim.Native.Nat.{ℕ, zero, suc}
 use mathlib.Core.Logic.{_↔_, Iff·rfl, Iff·and}
 use Rattle.paper.specs.Tables.{Plan}
 use Rattle.paper.specs.Sets.{Bounds, inputs, Fits, LeastSet}
-use Rattle.paper.specs.Windows.{Bounded, setting}
+use Rattle.paper.specs.Windows.{Bound, Bounded, setting}
 use Rattle.paper.specs.Sweeps.{Swept, Unchanged, Settles, Leaves, LeavesIn, Leaving}
 use Rattle.theory.specs.Numbers.Least.{least-same}
 use Rattle.theory.specs.Sweeps.Climb
 
--- Worked out from the set R, task k's new bound is r, within limits.
+-- Worked out from the set R, task k's new bound is r, limits aside;
+abbrev pub Gives : Plan → Bounds → ℕ → ℕ → Type 0
+Gives p R k r = (n : ℕ) × Bound (setting p (inputs p R) k) r n
+
+-- it is r, and all is within limits.
 abbrev pub Step : Plan → Bounds → ℕ → ℕ → Type 0
 Step p R k r = (n : ℕ) × Bounded (setting p (inputs p R) k) r n
 
 -- What a plan's sweeps work with.
 abbrev pub equations : Plan → Climb.Equations
-equations p = record { tasks = p .tasks; start = λ k. p .task k .C+; Step = Step p }
+equations p = record { tasks = p .tasks; start = λ k. p .task k .C+; Gives = Gives p; Step = Step p }
 
 -- Of two properties that the same things have, something has one exactly when something has the other.
 pub some : {A : Type 0} {P Q : A → Type 0} → ((a : A) → P a ↔ Q a) → ((a : A) × P a) ↔ ((a : A) × Q a)
