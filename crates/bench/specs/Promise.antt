@@ -150,7 +150,7 @@ promise {s} {room} {a} {out} due zero r run =
     let R = says .figures .R in
     let stands = says .stands in
     let sound = well-formed→sound s (says .well) in
-    let so = kept (says .well) (says .reported .least .fits) r run in
+    let so = kept (says .well) (says .reported .least .fits .consistent) r run in
     let stream : (k : ℕ) → k < p .tasks → inputs p R k ≡ record { P = period p k; J = inputs p R k .J } =
     λ k l i. record { P = period-law sound R k l i; J = inputs p R k .J } in
     record {

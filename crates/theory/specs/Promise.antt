@@ -10,7 +10,7 @@ use Rattle.paper.specs.Sets.{Bounds, inputs, Consistent, Fits, LeastSet}
 use Rattle.paper.specs.Sweeps.{Settles, Leaving}
 use Rattle.paper.specs.Running.{Run, RunOf}
 use Rattle.paper.specs.Kept.{Kept}
-use Rattle.theory.specs.Task.Preemptive.{bounded-says}
+use Rattle.theory.specs.Task.Preemptive.{bound-says}
 use Rattle.theory.specs.Plans.Sound.{Sound}
 use Rattle.theory.specs.Plans.Inputs.{inputs-law, period-law, period-some}
 use Rattle.theory.specs.Plans.WellFormed.{well-formed→sound}
@@ -21,15 +21,14 @@ use Rattle.theory.specs.Runs.Demand3.{claimsOf, demand-3}
 use Rattle.theory.specs.Runs.OneAtATime.{Idle, Spends}
 use Rattle.theory.specs.Runs.OneAtATime
 
--- A consistent set within limits covers the windows of every task of a sound plan.
-pub fits-cover : {p : Plan} {R : Bounds} → Sound p → Fits p R → Covers p (inputs p R) R
-fits-cover {p} {R} sound fits k l =
+-- A consistent set covers the windows of every task of a sound plan.
+consistent-covers : {p : Plan} {R : Bounds} → Sound p → Consistent p R → Covers p (inputs p R) R
+consistent-covers {p} {R} sound consistent k l =
     record {
       input = inputs-law sound R k l;
       period = subst (λ P. 1 ≤ P) (sym (period-law sound R k l)) (period-some sound k l);
-      n = fits .consistent k l .0;
-      says = bounded-says (proper p sound (inputs p R) k l)
-          (record { bound = fits .consistent k l .1; within = fits .within k l });
+      n = consistent k l .0;
+      says = bound-says (proper p sound (inputs p R) k l) (consistent k l .1);
     }
 
 module _ {s : Bytes} (well : WellFormed s) where
@@ -55,12 +54,13 @@ module _ {s : Bytes} (well : WellFormed s) where
       → m ≤ 1 + sum (planOf s .tasks) (λ k. R k - planOf s .task k .C+)
   sweeps-few = Demand2.sweeps-few (planOf s) (climbing (planOf s) (well-formed→sound s well))
 
-  -- Every consistent set within limits, in particular the reported one, is kept in every run of the plan, of any length.
-  pub kept : {R : Bounds} → Fits (planOf s) R → (r : Run) → RunOf (planOf s) r
+  -- Every consistent set, within limits or not and in particular the reported one, is kept in every run of the plan, of any
+  -- length.
+  pub kept : {R : Bounds} → Consistent (planOf s) R → (r : Run) → RunOf (planOf s) r
       → Kept (planOf s) (claimsOf (planOf s) (inputs (planOf s) R) R) r
-  kept {R} fits r run =
+  kept {R} consistent r run =
       let sound = well-formed→sound s well in
-      demand-3 (planOf s) (inputs (planOf s) R) R sound (fits-cover sound fits) r run
+      demand-3 (planOf s) (inputs (planOf s) R) R sound (consistent-covers sound consistent) r run
 
   -- One at a time: at every tick of every run, each controller spends it on exactly one of its tasks, the right one, where any
   -- of them waits, and on none where none does.

@@ -57,6 +57,6 @@ module _ (p : Plan) (r : Run) (run : RunOf p r) (k : ℕ) (counted : k < p .task
     (
       λ h. omega (arith, given-is m t, costs-suc r k m, finished-exactly p r run k counted sound m t .0 h),
       λ e. finished-exactly p r run k counted sound m t .1
-        (omega (arith, given-is m t, costs-suc r k m, run .least k m counted, sound .some-cost k counted)),
+          (omega (arith, given-is m t, costs-suc r k m, run .least k m counted, sound .some-cost k counted)),
     ),
   )

@@ -219,18 +219,17 @@ module _ {k : Setting} (proper : Proper k) where
       (under-decided preemptive-laws (k, proper))
 
   -- A task's bound says its inequalities.
-  pub bounded-says : {R n : ℕ} → Bounded k R n → Inequalities k R n
-  bounded-says {n = n} b =
-      let u = bounded-under (k, proper) b in
-      let chosen = every-chosen {P = Window k} n (λ q a l. (u .windows q a l .0, u .windows q a l .1)) in
+  pub bound-says : {R n : ℕ} → Bound k R n → Inequalities k R n
+  bound-says {n = n} b =
+      let chosen = every-chosen {P = Window k} n (jobs-windows (k, proper) n (b .jobs)) in
       let B = chosen .0 in
       let window = chosen .1 in
-      let last = b .bound .jobs .holds in
+      let last = b .jobs .holds in
       record {
         some = last .0;
         B = B;
         above = λ q a l. window q a l .holds .0;
         holds = λ q a l. omega (arith, window q a l .holds .1);
-        within = λ q a l. under-covers preemptive-laws (u .bound) q (B q) a l (window q a l);
+        within = λ q a l. under-covers preemptive-laws (bound-under (k, proper) b) q (B q) a l (window q a l);
         ends = omega (arith, least-one (last .1 .window) (window n (last .0) (le-refl n)));
       }
