@@ -39,7 +39,8 @@ pub(crate) fn gather<'a>(
     requires { ⌜ ((p : Plan) × (S : Windows.Inputs) × Sharing p (now controller) (now priority) (now most)
         × Streaming p S (now period) (now jitter) × (count ≡ p .tasks) × (task .0 < count)) ⌝ }
     ensures { λ r. ⌜ ((p : Plan) (S : Windows.Inputs) → Sharing p (now (controller .entry)) (now (priority .entry)) (now (most .entry))
-        → Streaming p S (now (period .entry)) (now (jitter .entry)) → count ≡ p .tasks → task .0 < count → Gathered p S (task .0) r) ⌝ }
+        → Streaming p S (now (period .entry)) (now (jitter .entry)) → count ≡ p .tasks → task .0 < count
+        → Gathered p S (task .0) r) ⌝ }
 {
     let mut n: usize = 0;
     let mut periods = [0u64; SHARING];

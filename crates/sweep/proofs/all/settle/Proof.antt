@@ -68,7 +68,8 @@ same-requires c κs =
 returns-2 : tie.Need-returns-2 Inv-loop μ-loop
 returns-2 c =
     let left = c .before .before .before .before .before .before in
-    turn-settled (turn-at (left .before .before .before)) (left .if1 .left) (rw (c .before .if2 .taken) at (c .before .before .same .ensures))
+    turn-settled (turn-at (left .before .before .before)) (left .if1 .left)
+    (rw (c .before .if2 .taken) at (c .before .before .same .ensures))
 
 loop-again : tie.Need-loop-again Inv-loop μ-loop
 loop-again c =
@@ -77,7 +78,9 @@ loop-again c =
     (rw (c .if2 .left) at (c .before .same .ensures))
 
 loop-less : tie.Need-loop-less Inv-loop μ-loop
-loop-less c = omega (arith, so-far-few (head (c .before .before .before .before .before .before .before .before) .before .before .pre) (loop-again c))
+loop-less c =
+    let start = head (c .before .before .before .before .before .before .before .before) .before .before in
+    omega (arith, so-far-few (start .pre) (loop-again c))
 
 pub settle-spec : {M : Type 1} → statement M
 settle-spec =

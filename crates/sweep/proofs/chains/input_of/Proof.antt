@@ -47,7 +47,8 @@ module _ {fed : List Bool} {feeder least period jitter set : List ℕ} {k delay 
         omega (arith, jitter-outside (so .sound) (boundsOf set) j _ _ l (starts so j l t), jittered .jitter-of j l)
 
     -- and task k's input stream is that of its events, delayed.
-    met-stream : {M : Stream} → M ≡ delayed (record { P = getD period k 0; J = getD jitter j 0 }) delay → M ≡ inputs p (boundsOf set) k
+    met-stream : {M : Stream} → M ≡ delayed (record { P = getD period k 0; J = getD jitter j 0 }) delay
+        → M ≡ inputs p (boundsOf set) k
     unfolding delayed
     met-stream e =
         e ∙ λ i. record { P = (jittered .period-of k h ∙ sym (period-law (so .sound) (boundsOf set) k h)) i; J = met-last i }

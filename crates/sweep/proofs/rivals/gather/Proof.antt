@@ -17,8 +17,8 @@ Inv-loop count controller priority most period jitter task n₀ periods₀ jitte
     (next ≤ count)
     × (count ≤ most-tasks)
     × Room (columns n periods jitters costs)
-    × ((p : Plan) (S : Inputs) → Sharing p controller priority most → Streaming p S period jitter → count ≡ p .tasks → task .0 < count
-    → Upto p S (task .0) next (columns n periods jitters costs))
+    × ((p : Plan) (S : Inputs) → Sharing p controller priority most → Streaming p S period jitter → count ≡ p .tasks
+    → task .0 < count → Upto p S (task .0) next (columns n periods jitters costs))
 
 abbrev μ-loop : tie.MeasureT-loop
 μ-loop count controller priority most period jitter task n₀ periods₀ jitters₀ costs₀ next₀ n periods jitters costs next =
