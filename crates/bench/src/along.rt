@@ -4,24 +4,27 @@ ghost use lib.ListN.{getD};
 ghost use Rattle.paper.specs.Report.{along};
 ghost use Rattle.bench.specs.Sums.{Summable};
 use limits::TASKS;
+use stream::TaskNo;
+use stream::Ticks;
 
-// A byte as an index.
-fn index(byte: u8) -> usize
-    ensures { λ r. ⌜ r ≡ byte ⌝ }
+// A byte of a path's part, which is the number of a task.
+fn task_of(byte: u8) -> TaskNo
+    ensures { λ r. ⌜ r .0 ≡ byte ⌝ }
 {
-    byte as usize
+    TaskNo(byte as usize)
 }
 
-// The sum of a column over the task numbers that a part of the plan holds.
-pub(crate) fn sum_along(part: &[u8], column: &[u64; TASKS]) -> u64
+// The sum of a column of ticks over the task numbers that a part of the plan holds.
+pub(crate) fn sum_along(part: &[u8], column: &[u64; TASKS]) -> Ticks
     requires { ⌜ Summable (now part) (now column) ⌝ }
-    ensures { λ r. ⌜ r ≡ along (now (part .entry)) (λ k. getD (now (column .entry)) k 0) ⌝ }
+    ensures { λ r. ⌜ r .0 ≡ along (now (part .entry)) (λ k. getD (now (column .entry)) k 0) ⌝ }
 {
     let mut sum: u64 = 0;
     let mut i = 0;
     while i < part.len() {
-        sum += column[index(part[i])];
+        let k = task_of(part[i]).0;
+        sum += column[k];
         i += 1;
     }
-    sum
+    Ticks(sum)
 }

@@ -46,6 +46,7 @@ fn accept(
     report: &mut [u8],
     t: Tasks,
     paths: Paths,
+    period: &[u64; TASKS],
     outcome: Outcome,
     sweep: u64,
 ) -> Answer
@@ -53,7 +54,7 @@ fn accept(
     ensures { λ r. ⌜ Answers (now (s .entry)) (length (now (report .entry))) r (now (report .exit)) ⌝ }
 {
     let length = report_bytes(t.count, paths.count);
-    let columns = columns_of(s, t, paths, outcome, sweep);
+    let columns = columns_of(s, t, paths, period, outcome, sweep);
     write(report, columns);
     Answer::Accepted { length, sweep }
 }
@@ -66,7 +67,7 @@ fn bound(s: &[u8], report: &mut [u8], t: Tasks, paths: Paths, period: [u64; TASK
     let outcome = settle(t, period);
     let ended = outcome.ended;
     match ended {
-        Ended::Settled { sweep } => accept(s, report, t, paths, outcome, sweep),
+        Ended::Settled { sweep } => accept(s, report, t, paths, &period, outcome, sweep),
         Ended::Left { task, sweep } => refuse(report, Answer::Unbounded { task, sweep }),
     }
 }

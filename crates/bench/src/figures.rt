@@ -18,13 +18,15 @@ use plan::Paths;
 use plan::Tasks;
 use plan::part_of;
 use report::Columns;
+use stream::EventModel;
 use stream::Ticks;
 use sweep::Outcome;
 
-// Every task's output jitter, its input jitter with R+ - R- added, and 0 past the count.
+// Every task's output jitter, that of its input stream delayed by R+ - R-, and 0 past the count.
 pub(crate) fn output_jitters<'a>(
     count: usize,
     least: &'a [u64; TASKS],
+    period: &'a [u64; TASKS],
     bound: &'a [u64; TASKS],
     input: &'a [u64; TASKS],
 ) -> [u64; TASKS]
@@ -35,7 +37,11 @@ pub(crate) fn output_jitters<'a>(
     let mut k: usize = 0;
     while k < count {
         let delay = Ticks(bound[k]).minus(Ticks(least[k]));
-        output[k] = input[k] + delay.0;
+        let stream = EventModel {
+            period: Ticks(period[k]),
+            jitter: Ticks(input[k]),
+        };
+        output[k] = stream.delayed(delay).jitter.0;
         k += 1;
     }
     output
@@ -54,14 +60,21 @@ pub(crate) fn path_sums(s: &[u8], paths: Paths, ticks: &[u64; TASKS]) -> [u64; P
     while q < count {
         let from = paths.part[q];
         let steps = paths.steps[q];
-        sum[q] = sum_along(part_of(s, from, steps), ticks);
+        sum[q] = sum_along(part_of(s, from, steps), ticks).0;
         q += 1;
     }
     sum
 }
 
 // The columns that the report of an accepted plan is written from.
-pub(crate) fn columns_of(s: &[u8], t: Tasks, paths: Paths, outcome: Outcome, sweep: u64) -> Columns
+pub(crate) fn columns_of(
+    s: &[u8],
+    t: Tasks,
+    paths: Paths,
+    period: &[u64; TASKS],
+    outcome: Outcome,
+    sweep: u64,
+) -> Columns
     requires { ⌜ Tabled (now s) t paths × Settled (planOf (now s)) sweep outcome ⌝ }
     ensures { λ r.
         ⌜ ((settled : Settled (planOf (now (s .entry))) sweep outcome) → Holds (planOf (now (s .entry))) (settled .figures) r) ⌝ }
@@ -71,7 +84,7 @@ pub(crate) fn columns_of(s: &[u8], t: Tasks, paths: Paths, outcome: Outcome, swe
     let input = outcome.input;
     let jobs = outcome.jobs;
     let deadline = paths.deadline;
-    let output = output_jitters(t.count, &least, &bound, &input);
+    let output = output_jitters(t.count, &least, period, &bound, &input);
     let best = path_sums(s, paths, &least);
     let worst = path_sums(s, paths, &bound);
     Columns {

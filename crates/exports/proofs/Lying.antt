@@ -3,15 +3,12 @@ use Prim.Native.Nat.{ℕ, _<_}
 use mathlib.Core.Path.{refl}
 use native.Mathlib.Omega.{arith}
 use lib.ListN.{getD}
-use Rattle.paper.specs.Limits.{most-paths}
 use Rattle.paper.specs.Bytes.{Bytes}
 use Rattle.paper.specs.Fields.{pathsOf}
 use Rattle.paper.specs.Tables.{planOf}
 use Rattle.paper.specs.Refusals.{WellFormed}
-use Rattle.theory.specs.Plans.Values.{read-head}
 use Rattle.plan.specs.Tables.{pathColumns}
-use Rattle.plan.proofs.Columns.{column-at}
-use Rattle.rules.proofs.WhenRead.{parts, part-same}
+use Rattle.rules.proofs.WhenRead.{parts, begins-at, part-same}
 use Rattle.exports.specs.Part.{Lies}
 
 -- Those of a path of a well-formed plan lie where the columns of its paths say.
@@ -22,13 +19,10 @@ somewhere {s} {q} well h =
     record {
       inside = parts s (well .reads) .inside q h;
       part = record {
-        held = λ w l. part-same s (well .reads) q h;
+        held = λ w l. (begins-at s (well .reads) q h, part-same s (well .reads) q h);
         uncounted = λ l. absurd (omega arith);
         ill-formed = λ ill. absurd (ill well);
       };
-      held = λ w l. column-at most-paths 0 _ (pathsOf s) q 0 (omega (arith, read-head s (well .reads) .paths)) h;
-      uncounted = λ l. absurd (omega arith);
-      ill-formed = λ ill. absurd (ill well);
     }
 
 -- Where there is no such plan or no such path, none lie anywhere.
@@ -36,8 +30,5 @@ pub nowhere : {s : Bytes} {q : ℕ} → (WellFormed s → q < planOf s .paths �
 nowhere {s} {q} none =
     record {
       inside = omega arith;
-      part = record { held = λ w l. absurd (none w l); uncounted = λ l. refl; ill-formed = λ ill. refl };
-      held = λ w l. absurd (none w l);
-      uncounted = λ l. refl;
-      ill-formed = λ ill. refl;
+      part = record { held = λ w l. absurd (none w l); uncounted = λ l. (refl, refl); ill-formed = λ ill. (refl, refl) };
     }

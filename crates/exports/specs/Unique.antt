@@ -1,14 +1,10 @@
 -- No two outcomes satisfy the contract of an entry. That of late_report_bytes is an equation.
 use Prim.Native.Nat.{ℕ}
 use mathlib.Core.Path.{_≡_, ap, sym, _∙_}
-use mathlib.Core.HLevel.{dec→stable}
-use native.Mathlib.Decide.{ℕ-discrete, decLt}
 use native.Mathlib.Omega.{arith}
 use lib.ListN.{length, take, drop, length-drop}
 use lib.Seq.{length-take-le}
 use Rattle.paper.specs.Bytes.{Bytes}
-use Rattle.paper.specs.Tables.{planOf}
-use Rattle.paper.specs.Refusals.{WellFormed}
 use Rattle.paper.specs.Answer.{Answer, Due}
 use Rattle.theory.specs.Outcomes.Unique.{due-one, asked-one}
 use Rattle.exports.specs.Part.{Lies}
@@ -29,15 +25,6 @@ long {s} {q} {from} {count} l = length-take-le count (drop from s) (rw (length-d
 -- late_path hands back one count, and stores one place.
 pub path-one : {s : Bytes} {q from from′ count count′ : ℕ} → Lies s q from count → Lies s q from′ count′
     → (from ≡ from′) × (count ≡ count′)
-path-one {s} {q} {from} {from′} l l′ = (begin, sym (long l) ∙ ap length (asked-one (l .part) (l′ .part)) ∙ long l′)
-  where
-    begin : from ≡ from′
-    begin =
-        elim (decLt q (planOf s .paths)) [
-          | yes h ↦
-              dec→stable (ℕ-discrete from from′)
-              (λ other.
-              let ill-formed : WellFormed s → ⊥ = λ well. other (l .held well h ∙ sym (l′ .held well h)) in
-              other (l .ill-formed ill-formed ∙ sym (l′ .ill-formed ill-formed)))
-          | no h ↦ l .uncounted (omega arith) ∙ sym (l′ .uncounted (omega arith))
-        ]
+path-one l l′ =
+    let (from, part) = asked-one (l .part) (l′ .part) in
+    (from, sym (long l) ∙ ap length part ∙ long l′)

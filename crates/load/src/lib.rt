@@ -11,6 +11,7 @@ ghost use Rattle.load.specs.Columns.{onIn, aboveOne, Ranged, Columns, Sa
 use limbs::LIMBS;
 use limits::TASKS;
 use stream::ControllerNo;
+use stream::Ticks;
 
 // The lowest controller whose load is above one, if there is any.
 pub enum Overload {
@@ -19,12 +20,12 @@ pub enum Overload {
 }
 
 // Adds a task's cost/period to num/den. Only the first n limbs are used.
-fn add_task(num: &mut [u64; LIMBS], den: &mut [u64; LIMBS], cost: u64, period: u64, n: usize)
-    requires { ⌜ TaskRoom n (now num) (now den) cost period ⌝ }
-    ensures { λ _. ⌜ TaskAdded n (now (num .entry)) (now (den .entry)) cost period (now (num .exit)) (now (den .exit)) ⌝ }
+fn add_task(num: &mut [u64; LIMBS], den: &mut [u64; LIMBS], cost: Ticks, period: Ticks, n: usize)
+    requires { ⌜ TaskRoom n (now num) (now den) (cost .0) (period .0) ⌝ }
+    ensures { λ _. ⌜ TaskAdded n (now (num .entry)) (now (den .entry)) (cost .0) (period .0) (now (num .exit)) (now (den .exit)) ⌝ }
 {
-    limbs::mul_add(num, period, den, cost, n);
-    limbs::mul_add(den, period, num, 0, n);
+    limbs::mul_add(num, period.0, den, cost.0, n);
+    limbs::mul_add(den, period.0, num, 0, n);
 }
 
 // Whether the load of controller c is above one.
@@ -47,7 +48,7 @@ fn above_one<'a>(
     while k < tasks {
         if controller[k] == c.0 {
             shared += 1;
-            add_task(&mut num, &mut den, cost[k], period[k], shared);
+            add_task(&mut num, &mut den, Ticks(cost[k]), Ticks(period[k]), shared);
         }
         k += 1;
     }

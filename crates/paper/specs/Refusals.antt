@@ -9,7 +9,7 @@ use Rattle.paper.specs.Words.{IsLeast, count}
 use Rattle.paper.specs.Limits.{plan-bytes, most-sharing}
 use Rattle.paper.specs.Bytes.{Bytes}
 use Rattle.paper.specs.Fields.{Judged, passed, _andThen_, unless, place, dueFields, fields}
-use Rattle.paper.specs.Tables.{Source, outside, fed, Plan, planOf}
+use Rattle.paper.specs.Tables.{Source, outside, fed, Plan, pathPlace, planOf}
 
 -- "1; then field by field; then 6": a plan that is too long, the first fault of the due fields, bytes after the last one.
 unfoldable pub read : Bytes → Judged
@@ -82,9 +82,10 @@ pub record WellFormed (s : Bytes) : Type 0 where
   pub reads : read s ≡ passed
   pub sound : None (rules (planOf s))
 
--- "hands back the very part of the plan that holds a path's task numbers"; "for any other plan, or a path number the head
--- does not count, that question hands back an empty part".
-pub record Asked (s : Bytes) (q : ℕ) (part : Bytes) : Type 0 where
-  pub held : WellFormed s → q < planOf s .paths → part ≡ planOf s .path q
-  pub uncounted : planOf s .paths ≤ q → part ≡ []
-  pub ill-formed : (WellFormed s → ⊥) → part ≡ []
+-- "hands back the very part of the plan that holds a path's task numbers", the one that begins behind the tag, the length and
+-- the deadline of the path's field; "for any other plan, or a path number the head does not count, that question hands back an
+-- empty part", at the plan's start.
+pub record Asked (s : Bytes) (q from : ℕ) (part : Bytes) : Type 0 where
+  pub held : WellFormed s → q < planOf s .paths → (from ≡ pathPlace s q + 7) × (part ≡ planOf s .path q)
+  pub uncounted : planOf s .paths ≤ q → (from ≡ 0) × (part ≡ [])
+  pub ill-formed : (WellFormed s → ⊥) → (from ≡ 0) × (part ≡ [])

@@ -2,6 +2,7 @@
 ghost use Prim.Native.Nat.{_+_, _≤_};
 ghost use mathlib.Core.Path.{_≡_};
 ghost use lib.ListN.{length, take, drop};
+ghost use Rattle.plan.specs.Parts.{BeginsAt};
 ghost use Rattle.plan.specs.Tables.{pathColumns};
 use crate::bytes::four_at;
 use crate::bytes::minus;
@@ -52,7 +53,7 @@ pub fn path_columns(s: &[u8]) -> Paths
 // The part of the plan that holds so many task numbers from a place on.
 pub fn part_of(s: &[u8], from: usize, steps: usize) -> &[u8]
     requires { ⌜ from + steps ≤ length (now s) ⌝ }
-    ensures { λ r. ⌜ now r ≡ take steps (drop from (now (s .entry))) ⌝ }
+    ensures { λ r. ⌜ BeginsAt (s .entry) from r × (now r ≡ take steps (drop from (now (s .entry)))) ⌝ }
 {
     let end = from + steps;
     &s[from..end]

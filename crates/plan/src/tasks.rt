@@ -13,6 +13,8 @@ use crate::tags::FED;
 use crate::walker::place;
 use crate::walker::walked;
 use limits::TASKS;
+use stream::TaskNo;
+use stream::Ticks;
 
 // How many tasks, and task k's values at k: its controller, its priority, C-, C+ and what activates it. What only the other
 // kind of task has is 0, and so is all past the count.
@@ -36,38 +38,38 @@ fn fed_at(s: &[u8], at: usize) -> bool
 }
 
 // Its feeder, 0 where it has none.
-fn feeder_at(s: &[u8], at: usize) -> usize
+fn feeder_at(s: &[u8], at: usize) -> TaskNo
     requires { ⌜ at < 2 ^ 32 ⌝ }
-    ensures { λ r. ⌜ r ≡ feederOf (sourceAt (now (s .entry)) at) ⌝ }
+    ensures { λ r. ⌜ r .0 ≡ feederOf (sourceAt (now (s .entry)) at) ⌝ }
 {
     if byte_at(s, at) == FED {
-        byte_at(s, at + 13) as usize
+        TaskNo(byte_at(s, at + 13) as usize)
     } else {
-        0
+        TaskNo(0)
     }
 }
 
 // Its period, 0 where it is fed.
-fn period_at(s: &[u8], at: usize) -> u64
+fn period_at(s: &[u8], at: usize) -> Ticks
     requires { ⌜ at < 2 ^ 32 ⌝ }
-    ensures { λ r. ⌜ r ≡ periodOf (sourceAt (now (s .entry)) at) ⌝ }
+    ensures { λ r. ⌜ r .0 ≡ periodOf (sourceAt (now (s .entry)) at) ⌝ }
 {
     if byte_at(s, at) == FED {
-        0
+        Ticks(0)
     } else {
-        four_at(s, at + 13)
+        Ticks(four_at(s, at + 13))
     }
 }
 
 // Its jitter, 0 where it is fed.
-fn jitter_at(s: &[u8], at: usize) -> u64
+fn jitter_at(s: &[u8], at: usize) -> Ticks
     requires { ⌜ at < 2 ^ 32 ⌝ }
-    ensures { λ r. ⌜ r ≡ jitterOf (sourceAt (now (s .entry)) at) ⌝ }
+    ensures { λ r. ⌜ r .0 ≡ jitterOf (sourceAt (now (s .entry)) at) ⌝ }
 {
     if byte_at(s, at) == FED {
-        0
+        Ticks(0)
     } else {
-        four_at(s, at + 17)
+        Ticks(four_at(s, at + 17))
     }
 }
 
@@ -93,9 +95,9 @@ pub fn task_columns(s: &[u8]) -> Tasks
         least[k] = four_at(s, at + 5);
         most[k] = four_at(s, at + 9);
         fed[k] = fed_at(s, at);
-        feeder[k] = feeder_at(s, at);
-        period[k] = period_at(s, at);
-        jitter[k] = jitter_at(s, at);
+        feeder[k] = feeder_at(s, at).0;
+        period[k] = period_at(s, at).0;
+        jitter[k] = jitter_at(s, at).0;
         at = walked(s, at);
         k += 1;
     }

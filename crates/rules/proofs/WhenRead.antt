@@ -1,5 +1,5 @@
 -- The tables of a plan that reads: what the tests of refusals 7 to 10 may rest on, and what they come to.
-use Prim.Native.Nat.{ℕ, _<_}
+use Prim.Native.Nat.{ℕ, _+_, _<_}
 use native.Mathlib.Omega.{arith}
 use mathlib.Core.Path.{_≡_, refl}
 use lib.ListN.{length, getD}
@@ -37,7 +37,12 @@ module _ (s : Bytes) (reads : read s ≡ passed) where
       rw (told (planOf s) (read-head s reads .tasks) .feeder k h)
       (feeder-counted _ (tasksOf s) (λ j e. read-feeders s reads k j h e) (read-head s reads .some-tasks))
 
-  -- The part that the columns give to a path is the plan's.
+  -- The part that the columns give to a path begins where the plan's does,
+  pub begins-at : (q : ℕ) → q < pathsOf s → getD (pathColumns s .part) q 0 ≡ pathPlace s q + 7
+  unfolding pathColumns
+  begins-at q h = column-at {A = ℕ} most-paths 0 _ (pathsOf s) q 0 (omega (arith, read-head s reads .paths)) h
+
+  -- and is the plan's.
   pub part-same : (q : ℕ) → q < pathsOf s → partOf s (pathColumns s .part) (pathColumns s .steps) q ≡ planOf s .path q
   unfolding pathColumns planOf partAt
   part-same q h =

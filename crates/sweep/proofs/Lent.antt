@@ -48,12 +48,13 @@ module _ {p : Plan} {t : Tasks} (so : Planned p t) where
   unfolding taskColumns
   periodic = at-task (so .ranged) _ _ (ap (λ (t : Tasks). t .period) (so .columns))
 
-  -- its input jitters are worked out,
-  pub jittered : Jittered p (t .least) (t .jitter)
+  -- its input streams are worked out, once its periods are,
+  pub jittered : {periods : List ℕ} → periods ≡ perTask p (period p) → Jittered p (t .least) periods (t .jitter)
   unfolding taskColumns
-  jittered =
+  jittered periods =
       record {
         least-of = at-task (so .ranged) _ _ (ap (λ (t : Tasks). t .least) (so .columns));
+        period-of = at-task (so .ranged) _ _ periods;
         jitter-of = at-task (so .ranged) _ _ (ap (λ (t : Tasks). t .jitter) (so .columns));
       }
 
@@ -91,7 +92,7 @@ module _ {p : Plan} {t : Tasks} (so : Planned p t) where
       record {
         counts = counted;
         shares = sharing;
-        least-of = jittered .least-of;
+        least-of = jittered periods .least-of;
         streams =
             record {
               period-of = λ k h. at-task (so .ranged) _ _ periods k h ∙ sym (period-law (so .sound) R k h);

@@ -63,14 +63,14 @@ pub record Turn (t : Tasks) (period set : List ℕ) (m : ℕ) (input : List ℕ)
 
 -- A turn is done where the input jitters and the sweep meet their contracts.
 pub turned : {t : Tasks} {period set input : List ℕ} {m : ℕ} {r : Swept} → SoFar t period set m
-    → ((p : Plan) → Chained p (t .fed) (t .feeder) → Jittered p (t .least) (t .jitter) → t .count ≡ p .tasks
+    → ((p : Plan) → Chained p (t .fed) (t .feeder) → Jittered p (t .least) period (t .jitter) → t .count ≡ p .tasks
     → input ≡ perTask p (λ k. inputs p (boundsOf set) k .J))
     → ((p : Plan) (S : Inputs)
     → Sweeping p S (t .count) (t .controller) (t .priority) (t .least) (t .most) period input → Works p S r)
     → Turn t period set m input r
 turned {t} {period} {set} {input} so-far jitters sweep =
     let given : (p : Plan) → Prepared p t period → input ≡ perTask p (λ k. inputs p (boundsOf set) k .J) =
-    λ p so. jitters p (chained (so .planned)) (jittered (so .planned)) (counted (so .planned)) in
+    λ p so. jitters p (chained (so .planned)) (jittered (so .planned) (so .periods)) (counted (so .planned)) in
     record {
       so-far = so-far;
       jitters = given;
@@ -79,7 +79,7 @@ turned {t} {period} {set} {input} so-far jitters sweep =
 
 module _ {t : Tasks} {period set input : List ℕ} {m : ℕ} {r : Swept} (turn : Turn t period set m input r) where
   -- Where a task leaves the limits, the sweep is the first in which one does, and the task the lowest.
-  pub turn-leaves : r .end < t .count → (p : Plan) → Prepared p t period → Leaving p (m + 1) (r .end)
+  pub turn-leaves : r .end .0 < t .count → (p : Plan) → Prepared p t period → Leaving p (m + 1) (r .end .0)
   turn-leaves h p so =
       let works = turn .works p so in
       rw (add-one m)
@@ -90,17 +90,17 @@ module _ {t : Tasks} {period set input : List ℕ} {m : ℕ} {r : Swept} (turn :
   turn-capped : (p : Plan) × Prepared p t period → Capped (r .bound)
   turn-capped (p, so) k =
       let works = turn .works p so in
-      elim (decLt k (r .end)) [
+      elim (decLt k (r .end .0)) [
         | yes l ↦
             bounded-most (proper p (so .planned .sound) (inputs p (boundsOf set)) k (omega (arith, works .few))) (works .bounded k l)
         | no l ↦ omega (arith, works .bounds .zeros k (omega arith))
       ]
 
-  module _ (all : t .count ≤ r .end) where
+  module _ (all : t .count ≤ r .end .0) where
     -- A column that is filled as far as the sweep went is that of all tasks.
-    turn-column : (p : Plan) → Prepared p t period → {xs : List ℕ} → ZeroFrom (r .end) xs → xs ≡ perTask p (boundsOf xs)
+    turn-column : (p : Plan) → Prepared p t period → {xs : List ℕ} → ZeroFrom (r .end .0) xs → xs ≡ perTask p (boundsOf xs)
     turn-column p so zeros =
-        let last : r .end ≡ p .tasks = omega (arith, turn .works p so .few, counted (so .planned)) in
+        let last : r .end .0 ≡ p .tasks = omega (arith, turn .works p so .few, counted (so .planned)) in
         rw last at (fill-column zeros _ (λ k h. refl))
 
     -- Where no task leaves the limits, the sweep works out a set from the last.

@@ -9,6 +9,7 @@ use Rattle.paper.specs.Limits.{most-tasks, most-ticks}
 use Rattle.paper.specs.Tables.{Plan}
 use Rattle.paper.specs.Windows.{Inputs}
 use Rattle.paper.specs.Sets.{Bounds}
+use Rattle.paper.specs.Load as Load
 use Rattle.theory.specs.Plans.Sound.{Sound, Ranged}
 use Rattle.plan.specs.Tables.{column, isFed, feederOf, jitterOf}
 
@@ -27,9 +28,11 @@ pub record Chained (p : Plan) (fed : List Bool) (feeder : List ℕ) : Type 0 whe
   pub fed-of : (k : ℕ) → k < p .tasks → getD fed k false ≡ isFed (p .task k .source)
   pub feeder-of : Holds p feeder (λ k. feederOf (p .task k .source))
 
--- From which input jitters are worked out along its chains: C- of its tasks, and the jitters of their events from outside.
-pub record Jittered (p : Plan) (least jitter : List ℕ) : Type 0 where
+-- From which input streams are worked out along its chains: C- and the periods of its tasks, and the jitters of their events from
+-- outside.
+pub record Jittered (p : Plan) (least period jitter : List ℕ) : Type 0 where
   pub least-of : Holds p least (λ k. p .task k .C-)
+  pub period-of : Holds p period (Load.period p)
   pub jitter-of : Holds p jitter (λ k. jitterOf (p .task k .source))
 
 -- From which rivals are gathered: the controllers, priorities and C+ of the tasks of a sound plan that fits the machine,

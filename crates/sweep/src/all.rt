@@ -53,7 +53,7 @@ pub fn settle(t: Tasks, period: [u64; TASKS]) -> Outcome
     let mut set = t.most;
     let mut sweeps: u64 = 0;
     loop {
-        let input = jitters(count, &t.fed, &t.feeder, &t.least, &t.jitter, &set);
+        let input = jitters(count, &t.fed, &t.feeder, &t.least, &period, &t.jitter, &set);
         let swept = sweep(
             count,
             &t.controller,
@@ -65,10 +65,10 @@ pub fn settle(t: Tasks, period: [u64; TASKS]) -> Outcome
         );
         sweeps += 1;
         let end = swept.end;
-        if end < count {
+        if end.0 < count {
             return Outcome {
                 ended: Ended::Left {
-                    task: TaskNo(end),
+                    task: end,
                     sweep: sweeps,
                 },
                 bound: [0u64; TASKS],

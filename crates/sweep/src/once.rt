@@ -11,17 +11,18 @@ use bound::Worked;
 use bound::work_out;
 use limits::TASKS;
 use stream::EventModel;
+use stream::TaskNo;
 use stream::Ticks;
 
 // What a sweep has worked out: the bounds of the tasks before its end and the jobs looked at, and 0 past them. Its end is the lowest
-// task that leaves the limits, or the count of tasks where none does.
+// task that leaves the limits, or the number behind the last task's where none does.
 pub(crate) struct Swept {
-    pub end: usize,
+    pub end: TaskNo,
     pub bound: [u64; TASKS],
     pub jobs: [u64; TASKS],
 }
 
-// Works out the bound of task k.
+// Works out the bound of a task.
 fn bound_of<'a>(
     count: usize,
     controller: &'a [usize; TASKS],
@@ -30,13 +31,14 @@ fn bound_of<'a>(
     most: &'a [u64; TASKS],
     period: &'a [u64; TASKS],
     jitter: &'a [u64; TASKS],
-    k: usize,
+    task: TaskNo,
 ) -> Worked
     requires { ⌜ ((p : Plan) × (S : Inputs)
-        × Sweeping p S count (now controller) (now priority) (now least) (now most) (now period) (now jitter) × (k < count)) ⌝ }
+        × Sweeping p S count (now controller) (now priority) (now least) (now most) (now period) (now jitter) × (task .0 < count)) ⌝ }
     ensures { λ w. ⌜ ((p : Plan) (S : Inputs) → Sweeping p S count (now (controller .entry)) (now (priority .entry)) (now (least .entry))
-        (now (most .entry)) (now (period .entry)) (now (jitter .entry)) → Says (setting p S k) w) ⌝ }
+        (now (most .entry)) (now (period .entry)) (now (jitter .entry)) → Says (setting p S (task .0)) w) ⌝ }
 {
+    let k = task.0;
     let own = Own {
         least: Ticks(least[k]),
         most: Ticks(most[k]),
@@ -45,7 +47,7 @@ fn bound_of<'a>(
             jitter: Ticks(jitter[k]),
         },
     };
-    let rivals = gather(count, controller, priority, most, period, jitter, k);
+    let rivals = gather(count, controller, priority, most, period, jitter, task);
     work_out(own, rivals)
 }
 
@@ -68,10 +70,19 @@ pub(crate) fn sweep<'a>(
     let mut jobs = [0u64; TASKS];
     let mut k: usize = 0;
     while k < count {
-        let worked = bound_of(count, controller, priority, least, most, period, jitter, k);
+        let worked = bound_of(
+            count,
+            controller,
+            priority,
+            least,
+            most,
+            period,
+            jitter,
+            TaskNo(k),
+        );
         let Worked::Within(new, looked_at) = worked else {
             return Swept {
-                end: k,
+                end: TaskNo(k),
                 bound,
                 jobs,
             };
@@ -81,7 +92,7 @@ pub(crate) fn sweep<'a>(
         k += 1;
     }
     Swept {
-        end: k,
+        end: TaskNo(k),
         bound,
         jobs,
     }

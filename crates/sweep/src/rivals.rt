@@ -9,16 +9,24 @@ ghost use Rattle.sweep.specs.Gathered.{Gathered};
 use bound::Rivals;
 use limits::SHARING;
 use limits::TASKS;
+use stream::TaskNo;
 
-// Whether task j is a rival of task k.
-fn rival<'a>(controller: &'a [usize; TASKS], priority: &'a [u64; TASKS], k: usize, j: usize) -> bool
-    requires { ⌜ (k < most-tasks) × (j < most-tasks) ⌝ }
-    ensures { λ r. ⌜ r ≡ rivalIn (now (controller .entry)) (now (priority .entry)) k j ⌝ }
+// Whether another task is a rival of a task.
+fn rival<'a>(
+    controller: &'a [usize; TASKS],
+    priority: &'a [u64; TASKS],
+    task: TaskNo,
+    other: TaskNo,
+) -> bool
+    requires { ⌜ (task .0 < most-tasks) × (other .0 < most-tasks) ⌝ }
+    ensures { λ r. ⌜ r ≡ rivalIn (now (controller .entry)) (now (priority .entry)) (task .0) (other .0) ⌝ }
 {
+    let k = task.0;
+    let j = other.0;
     controller[j] == controller[k] && priority[j] < priority[k]
 }
 
-// The rivals of task k, with the period and the jitter of each one's input stream.
+// The rivals of a task, with the period and the jitter of each one's input stream.
 pub(crate) fn gather<'a>(
     count: usize,
     controller: &'a [usize; TASKS],
@@ -26,12 +34,13 @@ pub(crate) fn gather<'a>(
     most: &'a [u64; TASKS],
     period: &'a [u64; TASKS],
     jitter: &'a [u64; TASKS],
-    k: usize,
+    task: TaskNo,
 ) -> Rivals
     requires { ⌜ ((p : Plan) × (S : Windows.Inputs) × Sharing p (now controller) (now priority) (now most)
-        × Streaming p S (now period) (now jitter) × (count ≡ p .tasks) × (k < count)) ⌝ }
+        × Streaming p S (now period) (now jitter) × (count ≡ p .tasks) × (task .0 < count)) ⌝ }
     ensures { λ r. ⌜ ((p : Plan) (S : Windows.Inputs) → Sharing p (now (controller .entry)) (now (priority .entry)) (now (most .entry))
-        → Streaming p S (now (period .entry)) (now (jitter .entry)) → count ≡ p .tasks → k < count → Gathered p S k r) ⌝ }
+        → Streaming p S (now (period .entry)) (now (jitter .entry)) → count ≡ p .tasks → task .0 < count
+        → Gathered p S (task .0) r) ⌝ }
 {
     let mut n: usize = 0;
     let mut periods = [0u64; SHARING];
@@ -41,7 +50,7 @@ pub(crate) fn gather<'a>(
     while next < count {
         let j = next;
         next += 1;
-        if rival(controller, priority, k, j) {
+        if rival(controller, priority, task, TaskNo(j)) {
             periods[n] = period[j];
             jitters[n] = jitter[j];
             costs[n] = most[j];

@@ -109,14 +109,25 @@ due-one {s} (accepted w _ _ r) (accepted _ _ _ r′) =
     let same = reported-same sound r r′ in
     (answer-one refl refl (same .sweeps), rw (report-same sound same))
 
--- One part at most is handed back for a path.
-pub asked-one : {s : Bytes} {q : ℕ} {part part′ : Bytes} → Asked s q part → Asked s q part′ → part ≡ part′
-asked-one {s} {q} {part} {part′} a a′ =
-    elim (decLt q (planOf s .paths)) [
-      | yes h ↦
-          dec→stable (List-discrete ℕ-discrete part part′)
-          (λ other.
-          let ill-formed : WellFormed s → ⊥ = λ well. other (a .held well h ∙ sym (a′ .held well h)) in
-          other (a .ill-formed ill-formed ∙ sym (a′ .ill-formed ill-formed)))
-      | no h ↦ a .uncounted (omega arith) ∙ sym (a′ .uncounted (omega arith))
-    ]
+-- One part at most is handed back for a path, at one place.
+pub asked-one : {s : Bytes} {q from from′ : ℕ} {part part′ : Bytes} → Asked s q from part → Asked s q from′ part′
+    → (from ≡ from′) × (part ≡ part′)
+asked-one {s} {q} {from} {from′} {part} {part′} a a′ = (
+  dec→stable (ℕ-discrete from from′) (λ other. never (λ same. other (same .0))),
+  dec→stable (List-discrete ℕ-discrete part part′) (λ other. never (λ same. other (same .1))),
+)
+  where
+    -- Two parts that are the same as a third are the same.
+    agree : {third : ℕ} {bytes : Bytes} → (from ≡ third) × (part ≡ bytes) → (from′ ≡ third) × (part′ ≡ bytes)
+        → (from ≡ from′) × (part ≡ part′)
+    agree x y = (x .0 ∙ sym (y .0), x .1 ∙ sym (y .1))
+
+    -- They are never two.
+    never : ((from ≡ from′) × (part ≡ part′) → ⊥) → ⊥
+    never other =
+        elim (decLt q (planOf s .paths)) [
+          | yes h ↦
+              let ill-formed : WellFormed s → ⊥ = λ well. other (agree (a .held well h) (a′ .held well h)) in
+              other (agree (a .ill-formed ill-formed) (a′ .ill-formed ill-formed))
+          | no h ↦ other (agree (a .uncounted (omega arith)) (a′ .uncounted (omega arith)))
+        ]

@@ -34,17 +34,17 @@ loop-holds c = (omega arith, omega arith, zero-add _)
 mul-sum : tie.Need-mul-sum Inv-loop μ-loop
 mul-sum c =
     let l = c .before .before .before .loop in
-    omega (arith, c .index .ensures, c .before .before .before .before .before .pre .tasks (l .i) (omega arith))
+    omega (arith, c .task-of .ensures, c .before .before .before .before .before .pre .tasks (l .i) (omega arith))
 
 element-copy-out-sum : tie.Need-element-copy-out-sum Inv-loop μ-loop
 element-copy-out-sum c =
     let l = c .before .before .before .loop in
-    omega (arith, c .index .ensures, c .before .before .before .before .before .pre .tasks (l .i) (omega arith))
+    omega (arith, c .task-of .ensures, c .before .before .before .before .before .pre .tasks (l .i) (omega arith))
 
 add-sum : tie.Need-add-sum Inv-loop μ-loop
 add-sum c =
     let pre = c .before .before .before .before .before .before .pre in
-    omega (arith, pre .few, pre .ticks (c .before .index .result))
+    omega (arith, pre .few, pre .ticks (c .before .task-of .result .0))
 
 loop-again : tie.Need-loop-again Inv-loop μ-loop
 loop-again c =
@@ -52,9 +52,9 @@ loop-again c =
     let a = c .before .before .before .before .before .before in
     let h : l .i < length (a .args .part .now) = omega arith in
     let f : ℕ → ℕ = λ k. getD (a .args .column .now) k 0 in
-    let e : f (c .before .index .result) ≡ f (getD (a .args .part .now) (l .i) 0) = ap f (c .before .index .ensures) in (
+    let e : f (c .before .task-of .result .0) ≡ f (getD (a .args .part .now) (l .i) 0) = ap f (c .before .task-of .ensures) in (
       omega arith,
-      omega (arith, a .pre .ticks (c .before .index .result)),
+      omega (arith, a .pre .ticks (c .before .task-of .result .0)),
       omega (arith, step (a .args .part .now) f (l .i) h),
     )
 

@@ -17,10 +17,10 @@ settle-requires c κs =
 
 accept-requires : tie.Need-accept-requires
 accept-requires c κs =
-    let a = c .before .before .before .before .before .before .before in
+    let a = c .before .before .before .before .before .before .before .before in
     let pre = a .pre in
-    let o = c .before .before .before .before .settle in
-    (pre .0, subst (λ (e : Ended). Says (planOf (a .args .s .now)) (o .result) e) (c .before .before .ended .given .1) (o .ensures _ (prepared (pre .0 .tabled) (pre .1))))
+    let o = c .before .before .before .before .before .settle in
+    (pre .0, subst (λ (e : Ended). Says (planOf (a .args .s .now)) (o .result) e) (c .before .before .before .ended .given .1) (o .ensures _ (prepared (pre .0 .tabled) (pre .1))))
 
 returns-2 : tie.Need-returns-2
 returns-2 c =

@@ -34,7 +34,7 @@ sum-along-requires : tie.Need-sum-along-requires Inv-loop μ-loop
 sum-along-requires c κs =
     let pre = c .before .before .before .before .before .before .pre in
     let h = held (pre .0) (pre .1) (c .before .before .before .before .loop .q) (omega arith) in
-    rw (c .part-of .ensures, h .holds) (summable (pre .0) (pre .3) _ (h .counted))
+    rw (c .part-of .ensures .1, h .holds) (summable (pre .0) (pre .3) _ (h .counted))
 
 loop-again : tie.Need-loop-again Inv-loop μ-loop
 loop-again c =
@@ -44,7 +44,7 @@ loop-again c =
     let room : l .q < most-paths = omega arith in (
       l .inv .0,
       omega arith,
-      column-put most-paths 0 _ (l .q) room (l .inv .2) (rw (c .sum-along .ensures, c .before .part-of .ensures, h .holds)),
+      column-put most-paths 0 _ (l .q) room (l .inv .2) (rw (c .sum-along .ensures, c .before .part-of .ensures .1, h .holds)),
     )
 
 returns : tie.Need-returns Inv-loop μ-loop

@@ -1,13 +1,14 @@
 -- `rules::asking::held_part` meets its contract.
 use Prim.Native.Nat.{_≤_, _<_}
 use native.Mathlib.Omega.{arith}
+use mathlib.Core.Path.{refl}
 use borrow.Author.Needs.{needs}
 use Rattle.paper.specs.Limits.{most-paths}
 use Rattle.paper.specs.Fields.{pathsOf}
 use Rattle.paper.specs.Tables.{planOf}
 use Rattle.theory.specs.Plans.Values.{read-head}
 use Rattle.plan.specs.Tables.{pathColumns}
-use Rattle.rules.proofs.WhenRead.{parts, part-same}
+use Rattle.rules.proofs.WhenRead.{parts, begins-at, part-same}
 use Rattle.rules.proofs.asking.held_part.Statement.{statement}
 use Rattle.rules.proofs.asking.held_part.Tie as tie
 
@@ -30,11 +31,16 @@ unfolding planOf
 returns c =
     let start = c .before .before .before .before .before .before in
     record {
-      held = λ well h.
-          rw (c .part-of .ensures, c .before .before .before .before .path-columns .ensures)
-          (part-same _ (well .reads) (start .args .path) h);
-      uncounted = λ h. absurd (omega (arith, counted (c .before .before .before)));
-      ill-formed = λ ill. absurd (ill (start .pre));
+      from = _;
+      begins = c .part-of .ensures .0;
+      asked =
+          record {
+            held = λ well h.
+                rw (c .part-of .ensures .1, c .before .before .before .before .path-columns .ensures)
+                (begins-at _ (well .reads) (start .args .path) h, part-same _ (well .reads) (start .args .path) h);
+            uncounted = λ h. absurd (omega (arith, counted (c .before .before .before)));
+            ill-formed = λ ill. absurd (ill (start .pre));
+          };
     }
 
 returns-2 : tie.Need-returns-2
@@ -44,9 +50,14 @@ returns-2 c =
     let uncounted : pathsOf (start .args .s .now) ≤ start .args .path =
     rw (c .before .before .path-columns .ensures) at (c .before .if1 .left) in
     record {
-      held = λ well h. absurd (omega arith);
-      uncounted = λ h. c .part-of2 .ensures;
-      ill-formed = λ ill. c .part-of2 .ensures;
+      from = 0;
+      begins = c .part-of2 .ensures .0;
+      asked =
+          record {
+            held = λ well h. absurd (omega arith);
+            uncounted = λ h. (refl, c .part-of2 .ensures .1);
+            ill-formed = λ ill. (refl, c .part-of2 .ensures .1);
+          };
     }
 
 pub held-part-spec : {M : Type 1} → statement M

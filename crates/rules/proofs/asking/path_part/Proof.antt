@@ -1,4 +1,5 @@
 -- `rules::asking::path_part` meets its contract.
+use mathlib.Core.Path.{refl}
 use borrow.Author.Needs.{needs}
 use Rattle.rules.proofs.Said.{well, ill}
 use Rattle.rules.proofs.asking.path_part.Statement.{statement}
@@ -11,9 +12,14 @@ returns-2 : tie.Need-returns-2
 returns-2 c =
     let refused-so = rw (c .before .enum-told2 .given .1) at (c .before .before .before .judge .ensures) in
     record {
-      held = λ w h. absurd (ill refused-so w);
-      uncounted = λ h. c .part-of .ensures;
-      ill-formed = λ i. c .part-of .ensures;
+      from = 0;
+      begins = c .part-of .ensures .0;
+      asked =
+          record {
+            held = λ w h. absurd (ill refused-so w);
+            uncounted = λ h. (refl, c .part-of .ensures .1);
+            ill-formed = λ i. (refl, c .part-of .ensures .1);
+          };
     }
 
 pub path-part-spec : {M : Type 1} → statement M

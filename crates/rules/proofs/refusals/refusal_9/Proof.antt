@@ -31,12 +31,12 @@ part-of-requires c κs =
 broken-requires : tie.Need-broken-requires Inv-loop μ-loop
 broken-requires c κs =
     let turn = c .before .before .before in
-    rw (c .part-of .ensures) (turn .before .before .before .pre .1 .counted (turn .before .loop .q) (turn .loop-test .taken))
+    rw (c .part-of .ensures .1) (turn .before .before .before .pre .1 .counted (turn .before .loop .q) (turn .loop-test .taken))
 
 loop-again : tie.Need-loop-again Inv-loop μ-loop
 loop-again c =
     let so = c .before .before .before .before .before .before .loop in
-    let wrong = rw (c .before .before .part-of .ensures) at (c .before .broken .ensures) in
+    let wrong = rw (c .before .before .part-of .ensures .1) at (c .before .broken .ensures) in
     (omega arith, lowest-more 9 _ _ (so .q) (so .inv .1) wrong (c .unless .ensures))
 
 -- After the loop every number is judged.

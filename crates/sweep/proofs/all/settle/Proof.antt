@@ -22,19 +22,19 @@ loop-holds c = so-far-start (c .before .pre)
 
 jitters-requires : tie.Need-jitters-requires Inv-loop μ-loop
 jitters-requires c κs =
-    let head = c .before .before .before .before .before .before in
+    let head = c .before .before .before .before .before .before .before in
     let (p, so) = head .before .before .pre in
-    ((p, chained (so .planned), jittered (so .planned), counted (so .planned)), head .loop .inv .capped)
+    ((p, chained (so .planned), jittered (so .planned) (so .periods), counted (so .planned)), head .loop .inv .capped)
 
 sweep-requires : tie.Need-sweep-requires Inv-loop μ-loop
 sweep-requires c κs =
     let worked = c .before .before .before .before .before .before .before in
-    let head = worked .before .before .before .before .before .before .before in
+    let head = worked .before .before .before .before .before .before .before .before in
     let (p, so) = head .before .before .pre in (
       p,
       inputs p (boundsOf (head .loop .set)),
       sweeping (so .planned) (so .periods) (head .loop .inv .capped)
-          (worked .jitters .ensures p (chained (so .planned)) (jittered (so .planned)) (counted (so .planned))),
+          (worked .jitters .ensures p (chained (so .planned)) (jittered (so .planned) (so .periods)) (counted (so .planned))),
     )
 
 -- From where a turn's sweep is done back to where its input jitters are worked out,
@@ -43,7 +43,7 @@ worked c = c .before .before .before .before .before .before .before .before
 
 -- and to where the turn begins.
 abbrev head : tie.After-sweep Inv-loop μ-loop → tie.At-loop Inv-loop μ-loop
-head c = worked c .before .before .before .before .before .before .before
+head c = worked c .before .before .before .before .before .before .before .before
 
 -- A turn is done there.
 turn-at : (c : tie.After-sweep Inv-loop μ-loop)
@@ -58,26 +58,29 @@ add-sweeps c =
 
 returns : tie.Need-returns Inv-loop μ-loop
 returns c p so =
-    record { leaving = turn-leaves (turn-at (c .before)) (c .if1 .taken) p so; bounds = refl; inputs = refl; jobs = refl }
+    record { leaving = turn-leaves (turn-at (c .before .before .before)) (c .if1 .taken) p so; bounds = refl; inputs = refl; jobs = refl }
 
 same-requires : tie.Need-same-requires Inv-loop μ-loop
 same-requires c κs =
-    let (p, so) = head (c .before .before .before .before) .before .before .pre in
+    let (p, so) = head (c .before .before .before .before .before .before) .before .before .pre in
     omega (arith, counted (so .planned), so .planned .ranged .tasks)
 
 returns-2 : tie.Need-returns-2 Inv-loop μ-loop
 returns-2 c =
     let left = c .before .before .before .before .before .before in
-    turn-settled (turn-at (left .before)) (left .if1 .left) (rw (c .before .if2 .taken) at (c .before .before .same .ensures))
+    turn-settled (turn-at (left .before .before .before)) (left .if1 .left)
+    (rw (c .before .if2 .taken) at (c .before .before .same .ensures))
 
 loop-again : tie.Need-loop-again Inv-loop μ-loop
 loop-again c =
     let left = c .before .before .before .before .before in
-    turn-next (turn-at (left .before)) (left .if1 .left) (head (left .before) .before .before .pre)
+    turn-next (turn-at (left .before .before .before)) (left .if1 .left) (head (left .before .before .before) .before .before .pre)
     (rw (c .if2 .left) at (c .before .same .ensures))
 
 loop-less : tie.Need-loop-less Inv-loop μ-loop
-loop-less c = omega (arith, so-far-few (head (c .before .before .before .before .before .before) .before .before .pre) (loop-again c))
+loop-less c =
+    let start = head (c .before .before .before .before .before .before .before .before) .before .before in
+    omega (arith, so-far-few (start .pre) (loop-again c))
 
 pub settle-spec : {M : Type 1} → statement M
 settle-spec =

@@ -1,10 +1,11 @@
 -- `sweep::chains::jitters` meets its contract. The loop's invariant: the column holds the input jitters of the first k tasks.
 use Prim.Native.Nat.{ℕ, _-_, _≤_, _<_}
 use native.Mathlib.Omega.{arith}
-use mathlib.Core.Path.{_≡_}
+use mathlib.Core.Path.{_≡_, ap}
 use lib.ListN.{getD}
 use Rattle.paper.specs.Limits.{most-tasks}
 use Rattle.paper.specs.Tables.{Plan}
+use Rattle.paper.specs.Streams.{Stream}
 use Rattle.paper.specs.Sets.{inputs}
 use Rattle.sweep.specs.Columns.{Chained, Jittered, boundsOf, ZeroFrom}
 use Rattle.sweep.proofs.Fill.{fill-none, fill-put, fill-every, fill-column}
@@ -12,23 +13,23 @@ use Rattle.sweep.proofs.chains.jitters.Statement.{statement}
 use Rattle.sweep.proofs.chains.jitters.Tie as tie
 
 abbrev Inv-loop : tie.InvT-loop
-Inv-loop count fed feeder least jitter set input₀ k₀ input k =
+Inv-loop count fed feeder least period jitter set input₀ k₀ input k =
     (k ≤ count)
     × (count ≤ most-tasks)
     × ZeroFrom k input
-    × ((p : Plan) → Chained p fed feeder → Jittered p least jitter → count ≡ p .tasks
+    × ((p : Plan) → Chained p fed feeder → Jittered p least period jitter → count ≡ p .tasks
     → (j : ℕ) → j < k → getD input j 0 ≡ inputs p (boundsOf set) j .J)
 
 abbrev μ-loop : tie.MeasureT-loop
-μ-loop count fed feeder least jitter set input₀ k₀ input k = count - k
+μ-loop count fed feeder least period jitter set input₀ k₀ input k = count - k
 
 loop-holds : tie.Need-loop-holds Inv-loop μ-loop
 loop-holds c =
     let (p, so, jittered, all) = c .pre .0 in
     (omega arith, omega (arith, so .ranged .tasks), fill-none, λ p so jittered all j l. absurd (omega arith))
 
-jitter-of-requires : tie.Need-jitter-of-requires Inv-loop μ-loop
-jitter-of-requires c κs =
+input-of-requires : tie.Need-input-of-requires Inv-loop μ-loop
+input-of-requires c κs =
     let (p, so, jittered, all) = c .before .before .pre .0 in
     ((p, so, jittered, omega arith), c .before .before .pre .1)
 
@@ -41,7 +42,7 @@ loop-again c =
       fill-put zeros _,
       λ p so jittered all.
           fill-every zeros (λ j x. x ≡ inputs p (boundsOf (head .before .args .set .now)) j .J) _ (omega arith)
-          (filled p so jittered all) (c .jitter-of .ensures p so jittered (omega arith)),
+          (filled p so jittered all) (ap (λ (M : Stream). M .J) (c .input-of .ensures p so jittered (omega arith))),
     )
 
 returns : tie.Need-returns Inv-loop μ-loop
@@ -57,7 +58,7 @@ jitters-spec =
     Inv-loop
     μ-loop
     loop-holds
-    jitter-of-requires
+    input-of-requires
     (omega arith) (omega arith) (omega arith) (omega arith)
     loop-again
     returns)

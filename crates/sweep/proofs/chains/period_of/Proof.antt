@@ -1,4 +1,4 @@
--- `sweep::chains::period_of` meets its contract. The loop's invariant: the task that is reached is the plan's, with k's period.
+-- `sweep::chains::period_of` meets its contract. The loop's invariant: the task that is reached is the plan's, with the task's period.
 use Prim.Native.Nat.{_<_}
 use native.Mathlib.Omega.{arith}
 use mathlib.Core.Path.{_≡_, refl, sym, _∙_}
@@ -12,12 +12,12 @@ use Rattle.sweep.proofs.chains.period_of.Statement.{statement}
 use Rattle.sweep.proofs.chains.period_of.Tie as tie
 
 abbrev Inv-loop : tie.InvT-loop
-Inv-loop fed feeder period k j₀ j =
+Inv-loop fed feeder period k j =
     (j < most-tasks)
     × ((p : Plan) → Chained p fed feeder → k < p .tasks → (j < p .tasks) × (Load.period p j ≡ Load.period p k))
 
 abbrev μ-loop : tie.MeasureT-loop
-μ-loop fed feeder period k j₀ j = depth fed feeder j
+μ-loop fed feeder period k j = depth fed feeder j
 
 loop-holds : tie.Need-loop-holds Inv-loop μ-loop
 loop-holds c = (omega (arith, c .pre .1 .ranged .tasks), λ p so h. (h, refl))

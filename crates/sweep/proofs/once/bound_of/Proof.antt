@@ -47,7 +47,7 @@ gather-requires c κs =
 work-out-requires : tie.Need-work-out-requires
 work-out-requires c κs =
     let start = c .before .before .before .before .before in
-    let k = start .args .k in
+    let k = start .args .task .0 in
     let (p, S, so, h) = start .pre in
     let l : k < p .tasks = rw (so .counts) at h in
     let shares = so .shares in
@@ -68,7 +68,7 @@ returns c p S so =
     let start = c .before .before .before .before .before .before in
     let h = start .pre .3 in
     let rivals = c .before .gather .ensures p S (so .shares) (so .streams) (so .counts) h in
-    subst (λ (s : Setting). Says s (c .work-out .result)) (same-setting so (start .args .k) h rivals) (c .work-out .ensures)
+    subst (λ (s : Setting). Says s (c .work-out .result)) (same-setting so (start .args .task .0) h rivals) (c .work-out .ensures)
 
 pub bound-of-spec : {M : Type 1} → statement M
 bound-of-spec =

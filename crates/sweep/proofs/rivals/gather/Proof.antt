@@ -13,15 +13,15 @@ use Rattle.sweep.proofs.rivals.gather.Statement.{statement}
 use Rattle.sweep.proofs.rivals.gather.Tie as tie
 
 abbrev Inv-loop : tie.InvT-loop
-Inv-loop count controller priority most period jitter k n₀ periods₀ jitters₀ costs₀ next₀ n periods jitters costs next =
+Inv-loop count controller priority most period jitter task n₀ periods₀ jitters₀ costs₀ next₀ n periods jitters costs next =
     (next ≤ count)
     × (count ≤ most-tasks)
     × Room (columns n periods jitters costs)
-    × ((p : Plan) (S : Inputs) → Sharing p controller priority most → Streaming p S period jitter → count ≡ p .tasks → k < count
-    → Upto p S k next (columns n periods jitters costs))
+    × ((p : Plan) (S : Inputs) → Sharing p controller priority most → Streaming p S period jitter → count ≡ p .tasks
+    → task .0 < count → Upto p S (task .0) next (columns n periods jitters costs))
 
 abbrev μ-loop : tie.MeasureT-loop
-μ-loop count controller priority most period jitter k n₀ periods₀ jitters₀ costs₀ next₀ n periods jitters costs next =
+μ-loop count controller priority most period jitter task n₀ periods₀ jitters₀ costs₀ next₀ n periods jitters costs next =
     count - next
 
 loop-holds : tie.Need-loop-holds Inv-loop μ-loop
@@ -30,7 +30,7 @@ loop-holds c =
       omega arith,
       omega (arith, shares .ranged .tasks),
       record { periods = refl; jitters = refl; costs = refl },
-      λ p S shares streams all h. upto-none p S (c .args .k) _ _ _,
+      λ p S shares streams all h. upto-none p S (c .args .task .0) _ _ _,
     )
 
 rival-requires : tie.Need-rival-requires Inv-loop μ-loop
@@ -42,7 +42,7 @@ rival-requires c κs =
 has-room : (c : tie.Then1 Inv-loop μ-loop) → c .before .before .before .loop .n + 1 < most-sharing
 has-room c =
     let head = c .before .before .before in
-    let k = head .before .args .k in
+    let k = head .before .args .task .0 in
     let j = head .loop .next in
     let (p, S, shares, streams, all, h) = head .before .pre in
     let e = rival-told shares k j (omega arith) (omega arith) (c .before .rival .ensures) (c .if1 .taken) in
@@ -52,7 +52,7 @@ loop-again : tie.Need-loop-again Inv-loop μ-loop
 loop-again c =
     let here = c .before .before .before in
     let head = here .before .before .before in
-    let k = head .before .args .k in
+    let k = head .before .args .task .0 in
     let j = head .loop .next in
     let room = head .loop .inv .2 in (
       omega arith,
@@ -70,7 +70,7 @@ loop-again c =
 loop-again-2 : tie.Need-loop-again-2 Inv-loop μ-loop
 loop-again-2 c =
     let head = c .before .before .before in
-    let k = head .before .args .k in
+    let k = head .before .args .task .0 in
     let j = head .loop .next in (
       omega arith,
       omega arith,
