@@ -11,7 +11,7 @@ use borrow.Rule.Slice.PartMut.{midOf, postOf, putMid}
 use Rattle.paper.specs.Bytes.{Bytes, bytes}
 use Rattle.paper.specs.Report.{each}
 use Rattle.theory.specs.Bytes.{bytes-length}
-use Rattle.theory.specs.ReportLength.{each-length}
+use Rattle.theory.specs.Report.Length.{each-length}
 use Rattle.report.specs.Wrote.{Wrote}
 
 -- One run of stores after another is one run.

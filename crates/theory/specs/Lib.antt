@@ -1,4 +1,5 @@
--- What follows from document 01's definitions. Read Promise first: demands 2 and 3 for a well-formed plan.
+-- What follows from document 01's definitions. Read Promise first, demands 2 and 3 for a well-formed plan; then Outcomes.Promise,
+-- which says them of the report's bytes.
 pub mod Numbers
 pub mod Bytes
 pub mod Streams
@@ -8,7 +9,7 @@ pub mod Sweeps
 pub mod Runs
 pub mod Promise
 pub mod Outcomes
-pub mod ReportLength
+pub mod Report
 pub mod Twin
 pub mod Case
 pub mod Starred

@@ -20,7 +20,7 @@ use Rattle.theory.specs.Plans.Judging.{passed-both, then-refused}
 use Rattle.theory.specs.Plans.WellFormed.{read-feeders, well-formed→sound}
 use Rattle.theory.specs.Sweeps.Climbs.{climbing}
 use Rattle.theory.specs.Sweeps.Demand2.{no-bound}
-use Rattle.theory.specs.ReportLength.{report-length}
+use Rattle.theory.specs.Report.Length.{report-length}
 use Rattle.theory.specs.Twin.Finding.{Lowest, choice}
 use Rattle.theory.specs.Twin.Sweeps.{Ended, settles, leaves, ended, EndsSo, ended-says}
 use Rattle.theory.specs.Twin.Judge.{overloaded, overloaded-says, judge, judge-says}

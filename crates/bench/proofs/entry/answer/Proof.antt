@@ -3,7 +3,7 @@ use native.Mathlib.Omega.{arith}
 use borrow.Author.Needs.{needs}
 use mathlib.Core.Path.{sym}
 use Rattle.paper.specs.Answer.{unread}
-use Rattle.bench.specs.Numbers.{unread-number}
+use Rattle.theory.specs.Outcomes.Numbers.{unread-number}
 use Rattle.bench.proofs.entry.answer.Statement.{statement}
 use Rattle.bench.proofs.entry.answer.Tie as tie
 

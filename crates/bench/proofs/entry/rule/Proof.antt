@@ -12,7 +12,7 @@ use Rattle.plan.specs.declared.judged.Judged as code
 use Rattle.plan.specs.Judged.{said}
 use Rattle.rules.specs.Judges.{Judges, unread, unsound}
 use Rattle.rules.proofs.Said.{well}
-use Rattle.bench.specs.Numbers.{unread-number, unsound-number}
+use Rattle.theory.specs.Outcomes.Numbers.{unread-number, unsound-number}
 use Rattle.bench.proofs.entry.rule.Statement.{statement}
 use Rattle.bench.proofs.entry.rule.Tie as tie
 

@@ -7,7 +7,7 @@ use lib.ListN.{length}
 use lib.Seq.{length-take-le}
 use Rattle.paper.specs.Line.{lineOf}
 use Rattle.bench.specs.Answers.{numbered}
-use Rattle.bench.specs.Room.{accepted-inside}
+use Rattle.theory.specs.Outcomes.Room.{accepted-inside}
 use Rattle.console.proofs.Laws.{put-more, due-numbered}
 use Rattle.console.proofs.line.answer_line.Statement.{statement}
 use Rattle.console.proofs.line.answer_line.Tie as tie

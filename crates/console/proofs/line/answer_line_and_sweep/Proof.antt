@@ -6,7 +6,7 @@ use native.Mathlib.Omega.{arith}
 use lib.ListN.{length}
 use lib.Seq.{length-take-le}
 use Rattle.bench.specs.Answers.{numbered}
-use Rattle.bench.specs.Room.{accepted-inside}
+use Rattle.theory.specs.Outcomes.Room.{accepted-inside}
 use Rattle.console.specs.Said.{sweptLineOf}
 use Rattle.console.proofs.Laws.{put-more, due-numbered}
 use Rattle.console.proofs.line.answer_line_and_sweep.Statement.{statement}

@@ -12,7 +12,7 @@ use Rattle.paper.specs.Answer.{blank}
 use Rattle.report.specs.declared.whole.Columns.{Columns}
 use Rattle.report.specs.Figured.{taskRow, pathRow, wholeOf, longOf}
 use Rattle.report.specs.Wrote.{Wrote}
-use Rattle.theory.specs.ReportLength.{each-length, head-length}
+use Rattle.theory.specs.Report.Length.{each-length, head-length}
 use Rattle.report.proofs.Laws.{rest-more, filled}
 use Rattle.report.proofs.Rows.{task-long, path-long}
 use Rattle.report.proofs.whole.write.Statement.{statement}

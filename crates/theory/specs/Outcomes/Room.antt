@@ -7,8 +7,8 @@ use Rattle.paper.specs.Tables.{planOf}
 use Rattle.paper.specs.Refusals.{WellFormed}
 use Rattle.paper.specs.Report.{reportLength, report-bytes}
 use Rattle.paper.specs.Answer.{Answer, Due, unread, unsound, short, overload, unbounded, accepted}
 use Rattle.theory.specs.Plans.WellFormed.{well-formed→ranged}
-use Rattle.bench.specs.Numbers.{unread-number, unsound-number}
+use Rattle.theory.specs.Outcomes.Numbers.{unread-number, unsound-number}
 
 -- No report is longer, so no well-formed plan is refused with 11 where there is so much room.
 pub enough : (s : Bytes) → WellFormed s → reportLength (planOf s) ≤ report-bytes

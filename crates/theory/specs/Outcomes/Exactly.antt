@@ -10,9 +10,9 @@ use Rattle.paper.specs.Sets.{Bounds, Fits}
 use Rattle.paper.specs.Load.{Overloaded}
 use Rattle.paper.specs.Report.{reportLength}
 use Rattle.paper.specs.Answer.{Answer, blank, Due, unread, unsound, short, overload, unbounded, accepted}
 use Rattle.theory.specs.Plans.Judging.{refused-not-passed}
 use Rattle.theory.specs.Outcomes.Unique.{first-none}
-use Rattle.bench.specs.Numbers.{unread-number, unsound-number}
+use Rattle.theory.specs.Outcomes.Numbers.{unread-number, unsound-number}
 
 -- Every refusal leaves FF in the whole report space.
 pub refused-blank : {s : Bytes} {room : ℕ} {a : Answer} {out : Bytes} → Due s room a out → 1 ≤ a .number → out ≡ blank room

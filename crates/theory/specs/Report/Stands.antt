@@ -13,8 +13,8 @@ use Rattle.paper.specs.Sets.{inputs}
 use Rattle.paper.specs.Report.{Figures, recordOf, headRecord, taskRecord, verdict, pathRecord, best, worst}
 use Rattle.paper.specs.Report.{taskReport, pathReport, each, report}
 use Rattle.paper.specs.Places.{taskFrom, pathFrom, Stands}
 use Rattle.theory.specs.Bytes.{number-front, number-behind, number-bytes, difference-signed}
-use Rattle.theory.specs.ReportLength.{each-length, head-length, task-length, path-length}
+use Rattle.theory.specs.Report.Length.{each-length, head-length, task-length, path-length}
 
 -- A number inside record k of a row of records of one length is that record's.
 number-each : (long n : ℕ) (f : ℕ → Bytes) → ((k : ℕ) → length (f k) ≡ long) → (k at width : ℕ) → k < n → at + width ≤ long

@@ -12,10 +12,10 @@ use Rattle.paper.specs.Sweeps.{Swept, Settles}
 use Rattle.paper.specs.Report.{recordOf, headRecord, taskRecord, pathRecord, each, reportLength}
 use Rattle.paper.specs.Places.{R+In}
 use Rattle.paper.specs.Answer.{Answer, Due}
 use Rattle.theory.specs.Outcomes.Unique.{due-one}
 use Rattle.theory.specs.Twin.Answer.{refusal, space, due-some}
 use Rattle.theory.specs.Starred.{every, plan, taskOf, pathOf, reported, Run, _gets_, table, starred}
-use Rattle.bench.specs.Promise.{accepted-says, accepted-least}
+use Rattle.theory.specs.Outcomes.Promise.{accepted-says, accepted-least}
 
 -- What an entry does: its answer, and what the report space holds at exit.
 pub record Did : Type 0 where

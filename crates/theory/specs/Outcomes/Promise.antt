@@ -21,18 +21,18 @@ use Rattle.paper.specs.Running.{Run, activations, finishes, At, RunOf}
 use Rattle.paper.specs.Places.{R+In, verdictIn, worstIn, Stands}
 use Rattle.paper.specs.Kept.{first, last, claimsIn, Kept}
 use Rattle.paper.specs.Answer.{Answer, blank, Reported, Due, unread, unsound, short, overload, unbounded, accepted}
 use Rattle.theory.specs.Numbers.Least.{least-one}
 use Rattle.theory.specs.Numbers.Sums.{sum-most}
 use Rattle.theory.specs.Numbers.Tests.{passes-or-not}
 use Rattle.theory.specs.Streams.Counts.{counts-rise}
 use Rattle.theory.specs.Runs.Served.{finishes-counted}
 use Rattle.theory.specs.Task.Preemptive.{bounded-most}
 use Rattle.theory.specs.Plans.WellFormed.{well-formed→sound, well-formed→ranged}
 use Rattle.theory.specs.Sweeps.Climbs.{proper}
 use Rattle.theory.specs.Plans.Inputs.{period-law}
 use Rattle.theory.specs.Promise.{least-of-all, sweeps-few, kept}
-use Rattle.bench.specs.Figures.{Fitting, report-stands}
-use Rattle.bench.specs.Numbers.{unread-number, unsound-number}
+use Rattle.theory.specs.Report.Stands.{Fitting, report-stands}
+use Rattle.theory.specs.Outcomes.Numbers.{unread-number, unsound-number}
 
 -- A sum along a path is at most the path's length times the most that a part of it is.
 along-most : (path : List ℕ) (f : ℕ → ℕ) (most : ℕ) → ((i : ℕ) → i < length path → f (getD path i 0) ≤ most)
