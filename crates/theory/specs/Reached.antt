@@ -2,21 +2,22 @@
 -- worst, as they stand in the bytes of the report. No smaller figures would be kept.
 pub mod C
 pub mod Rich
-use Prim.Native.Nat.{ℕ, _+_, _-_, _≤_, _<_}
+use Prim.Native.Nat.{ℕ, suc, _+_, _≤_, _<_}
 use mathlib.Core.Path.{_≡_, subst}
-use mathlib.Core.Bool.{true}
-use lib.ListN.{length}
-use native.Mathlib.Omega.{arith}
+use mathlib.Core.Bool.{Bool, true, _&&_}
+use lib.Dec.{leb, ltb}
+use borrow.Author.Tests.{leb-true, ltb-true}
+use Rattle.paper.specs.Words.{sum, any}
 use Rattle.paper.specs.Bytes.{Bytes}
 use Rattle.paper.specs.Tables.{Plan, planOf}
-use Rattle.paper.specs.Running.{Run, activations, finishes, At, Response, RunOf}
+use Rattle.paper.specs.Windows.{rival}
+use Rattle.paper.specs.Running.{Run, activatedBy, waits, runs, ends, step, stateAt, activations, finishes, At, Response, RunOf}
 use Rattle.paper.specs.Places.{R+In, worstIn}
 use Rattle.paper.specs.Kept.{first, last, Claims, Kept}
 use Rattle.paper.specs.Answer.{Answer, Due}
-use Rattle.theory.specs.Plans.Sound.{Sound}
+use Rattle.theory.specs.Numbers.Tests.{both}
 use Rattle.theory.specs.Outcomes.Unique.{due-one}
 use Rattle.theory.specs.Twin.Answer.{Outcome, space, IsDue}
-use Rattle.theory.specs.Twin.Running.{takesOn, takesOn-says}
 
 -- Some job of task k takes so many ticks, and finishes inside the run.
 pub record Takes (p : Plan) (r : Run) (k ticks : ℕ) : Type 0 where
@@ -53,22 +54,48 @@ pub reached-in : {s : Bytes} {r : Run} {room : ℕ} {a : Answer} {out : Bytes} (
     → Reaches (planOf s) r (space room (o .report)) → Due s room a out → Reaches (planOf s) r out
 reached-in {s} {r} o due reaches other = subst (Reaches (planOf s) r) (due-one due other .1) reaches
 
-module _ {p : Plan} (sound : Sound p) (r : Run) where
-  -- A job takes as many ticks as it does on the boards,
-  pub job : (k m a ticks : ℕ) → k < p .tasks → takesOn p r k k m a ticks ≡ true → a + ticks ≤ r .ticks → Takes p r k ticks
-  job k m a ticks h e inside =
-      let (activated, finished) = takesOn-says p r (sound .feeders) k k m a ticks h h e in
+-- Whether event m of a stream, given by its counts, falls on tick t.
+abbrev falls : (ℕ → ℕ) → (m t : ℕ) → Bool
+falls counts m t = leb (counts t) m && ltb m (counts (suc t))
+
+-- An event that passes the test falls on that tick.
+falls-says : (counts : ℕ → ℕ) (m t : ℕ) → falls counts m t ≡ true → At counts m t
+falls-says counts m t e =
+    let (after, by) = both (leb (counts t) m) (ltb m (counts (suc t))) e in
+    record { after = leb-true (counts t) m after; by = ltb-true m (counts (suc t)) by }
+
+-- Whether job m of task j is activated at tick a, and job m of task k finishes so many ticks later, inside the run. To unfold
+-- this is to unfold all of the running rule. (Plan and run are given by name at each use: while they are not yet determined, the
+-- rule takes many times as long to compute with every tick.)
+unfoldable pub takes : Plan → Run → (j k m a ticks : ℕ) → Bool
+unfolding activations finishes stateAt step runs waits ends activatedBy rival any sum
+takes p r j k m a ticks =
+    falls (activations p r j) m a && falls (finishes p r k) m (a + ticks) && leb (a + ticks) (r .ticks)
+
+module _ (p : Plan) (r : Run) where
+  -- A job that passes the test takes so many ticks,
+  pub job : (k m a ticks : ℕ) → takes p r k k m a ticks ≡ true → Takes p r k ticks
+  unfolding takes
+  job k m a ticks e =
+      let (then, inside) = both _ _ e in
+      let (activated, finished) = both _ _ then in
       record {
         job = m;
-        response = record { activation = a; activated-then = activated; finished-then = finished };
-        inside = inside;
+        response =
+            record { activation = a; activated-then = falls-says _ m a activated; finished-then = falls-says _ m (a + ticks) finished };
+        inside = leb-true (a + ticks) (r .ticks) inside;
       }
 
   -- and so does an event on a path.
-  pub event : (q m a ticks : ℕ) → q < p .paths → takesOn p r (first (p .path q)) (last (p .path q)) m a ticks ≡ true
-      → a + ticks ≤ r .ticks → PathTakes p r q ticks
-  event q m a ticks h e inside =
-      let some = sound .some-step q h in
-      let end = sound .steps q (length (p .path q) - 1) h (omega arith) in
-      let (activated, finished) = takesOn-says p r (sound .feeders) _ _ m a ticks (sound .steps q 0 h some) end e in
-      record { event = m; activation = a; activated-then = activated; finished-then = finished; inside = inside }
+  pub event : (q m a ticks : ℕ) → takes p r (first (p .path q)) (last (p .path q)) m a ticks ≡ true → PathTakes p r q ticks
+  unfolding takes
+  event q m a ticks e =
+      let (then, inside) = both _ _ e in
+      let (activated, finished) = both _ _ then in
+      record {
+        event = m;
+        activation = a;
+        activated-then = falls-says _ m a activated;
+        finished-then = falls-says _ m (a + ticks) finished;
+        inside = leb-true (a + ticks) (r .ticks) inside;
+      }

@@ -1,5 +1,5 @@
--- The executable twin: the equations, the refusals and the running rule as definitions that compute, each with a theorem that
--- what it finds is what document 01's relations say.
+-- The executable twin: the equations and the refusals as definitions that compute, each with a theorem that what it finds is
+-- what document 01's relations say.
 pub mod Finding
 pub mod Window
 pub mod Bound
@@ -7,4 +7,3 @@ pub mod Sweeps
 pub mod Judge
 pub mod Answer
 pub mod Computed
-pub mod Running

@@ -41,9 +41,3 @@ passes-any (suc n) f k h e =
       | yes last ↦ rw (← last, e, or-true)
       | no other ↦ rw (passes-any n f k (omega arith) e)
     ]
-
--- Tests that say the same of every number below n say the same of them together.
-pub any-ext : (n : ℕ) (f g : ℕ → Bool) → ((k : ℕ) → k < n → f k ≡ g k) → any n f ≡ any n g
-unfolding any
-any-ext zero f g h = refl
-any-ext (suc n) f g h = rw (any-ext n f g (λ k l. h k (omega arith)), h n (omega arith))

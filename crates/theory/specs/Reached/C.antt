@@ -16,9 +16,8 @@ use Rattle.theory.specs.Plans.Sound.{Sound}
 use Rattle.theory.specs.Plans.WellFormed.{well-formed→sound}
 use Rattle.theory.specs.Runs.Dense.{dense, dense-run}
 use Rattle.theory.specs.Twin.Answer.{space}
-use Rattle.theory.specs.Twin.Running.{takesOn}
 use Rattle.theory.specs.Starred.{_gets_, C, C-outcome, table, starred, starred-well}
-use Rattle.theory.specs.Reached.{Takes, Reaches, reached-in, job}
+use Rattle.theory.specs.Reached.{Takes, Reaches, reached-in, takes, job}
 
 -- C is a starred run,
 C-starred : List·Memᴰ (C gets C-outcome) table
@@ -39,12 +38,12 @@ both-run = dense-run C-sound 3 _ (λ k m h. (C-sound .costs k h, le-refl _))
 
 -- In it the figures of C's report are reached: the first job of task 0 takes 1 tick, and that of task 1 takes 2.
 both-reach : (room : ℕ) → Reaches (planOf C) both-at-once (space room (C-outcome .report))
-unfolding C C-outcome takesOn planOf taskAt sourceAt streamAt place ending number mostEvents roundedUp
+unfolding C C-outcome takes planOf taskAt sourceAt streamAt place ending number mostEvents roundedUp
 both-reach room = record { run = both-run; tasks = tasks; paths = λ q h. absurd (omega arith) }
   where
     tasks : (k : ℕ) → k < planOf C .tasks → Takes (planOf C) both-at-once k (R+In (space room (C-outcome .report)) k)
-    tasks zero h = job C-sound both-at-once 0 0 0 1 h refl (omega arith)
-    tasks (suc zero) h = job C-sound both-at-once 1 0 0 2 h refl (omega arith)
+    tasks zero h = job (planOf C) both-at-once 0 0 0 1 refl
+    tasks (suc zero) h = job (planOf C) both-at-once 1 0 0 2 refl
     tasks (suc (suc k)) h = absurd (omega arith)
 
 -- Whatever answer is due for C, with room enough, and whatever the report space then holds: the figures that stand there are

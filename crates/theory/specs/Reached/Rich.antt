@@ -21,9 +21,8 @@ use Rattle.theory.specs.Streams.Counting.{d-grows, d-on-grid}
 use Rattle.theory.specs.Runs.Grid.{eventsAt, grid-run}
 use Rattle.theory.specs.Twin.Answer.{Outcome, space}
 use Rattle.theory.specs.Twin.Computed.{computed, computed-well, computed-due}
-use Rattle.theory.specs.Twin.Running.{takesOn}
 use Rattle.theory.specs.Starred.{every, taskBetween, pathOf, plan, reported}
-use Rattle.theory.specs.Reached.{Takes, PathTakes, Reaches, reached-in, job, event}
+use Rattle.theory.specs.Reached.{Takes, PathTakes, Reaches, reached-in, takes, job, event}
 
 -- The plan. Controller 0 has three tasks, their priorities out of number order; the least urgent, task 0, is fed by task 3 on
 -- controller 1, and the jitter of the most urgent, task 1, is above its period. C- is below C+. The path leads from task 3 to
@@ -90,19 +89,19 @@ five-run =
 -- activated: the first two jobs of task 1, of which the second finishes at 9; the first of task 2, which finishes at 14; and
 -- the first of task 0, which finishes at 18.
 five-reach : (room : ℕ) → Reaches (planOf rich) all-at-five (space room (rich-outcome .report))
-unfolding rich rich-outcome takesOn planOf taskAt sourceAt streamAt partAt place ending number eventsAt count d
+unfolding rich rich-outcome takes planOf taskAt sourceAt streamAt partAt place ending number eventsAt count d
 five-reach room = record { run = five-run; tasks = tasks; paths = paths }
   where
     tasks : (k : ℕ) → k < planOf rich .tasks → Takes (planOf rich) all-at-five k (R+In (space room (rich-outcome .report)) k)
-    tasks zero h = job rich-sound all-at-five 0 0 5 13 h refl (omega arith)
-    tasks (suc zero) h = job rich-sound all-at-five 1 1 5 4 h refl (omega arith)
-    tasks (suc (suc zero)) h = job rich-sound all-at-five 2 0 5 9 h refl (omega arith)
-    tasks (suc (suc (suc zero))) h = job rich-sound all-at-five 3 0 0 5 h refl (omega arith)
+    tasks zero h = job (planOf rich) all-at-five 0 0 5 13 refl
+    tasks (suc zero) h = job (planOf rich) all-at-five 1 1 5 4 refl
+    tasks (suc (suc zero)) h = job (planOf rich) all-at-five 2 0 5 9 refl
+    tasks (suc (suc (suc zero))) h = job (planOf rich) all-at-five 3 0 0 5 refl
     tasks (suc (suc (suc (suc k)))) h = absurd (omega arith)
 
     paths : (q : ℕ) → q < planOf rich .paths
         → PathTakes (planOf rich) all-at-five q (worstIn (space room (rich-outcome .report)) (planOf rich .tasks) q)
-    paths zero h = event rich-sound all-at-five 0 0 0 18 h refl (omega arith)
+    paths zero h = event (planOf rich) all-at-five 0 0 0 18 refl
     paths (suc q) h = absurd (omega arith)
 
 -- Whatever answer is due for the plan, with room enough, and whatever the report space then holds: the figures that stand there

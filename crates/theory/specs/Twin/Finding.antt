@@ -121,15 +121,3 @@ unfolding row
 row-says P other zero find says = (refl, λ k h. absurd (omega arith))
 row-says P other (suc n) find says =
     longer-says P other n (row n find) (find n) (row-says P other n find (λ k h. says k (omega arith))) (says n (le-refl _))
-
--- One thing for each number below n, in order.
-unfoldable pub listed : {A : Type 0} → ℕ → (ℕ → A) → List A
-listed zero f = []
-listed (suc n) f = listed n f ++ (f n ∷ [])
-
--- Each stands at its place.
-pub listed-says : {A : Type 0} (n : ℕ) (f : ℕ → A) (other : A) → Rowed (λ k a. a ≡ f k) other n (whole (listed n f))
-unfolding listed longer
-listed-says zero f other = (refl, λ k h. absurd (omega arith))
-listed-says (suc n) f other =
-    longer-says (λ k a. a ≡ f k) other n (whole (listed n f)) (some (f n)) (listed-says n f other) refl
