@@ -1,30 +1,18 @@
 -- The starred runs of document 01's "Runs on the test bench": one table, one claim.
 use Prim.Native.Nat.{ℕ, _≤_}
-use mathlib.Core.Path.{_≡_, refl, sym, ap}
+use mathlib.Core.Path.{_≡_, refl}
 use mathlib.Core.Logic.{inl, inr}
 use mathlib.Core.List.{List, [], _∷_, _++_, map, flatten, List·Memᴰ, List·Memᴰ·not-nil, List·Memᴰ·cases-cons}
 use mathlib.Core.List.{cons-eq-cons}
-use mathlib.Core.Option.{bind, orElse}
 use lib.ListN.{length, replicate}
-use Rattle.paper.specs.Words.{sum, product, count, any}
-use Rattle.paper.specs.Bytes.{Bytes, number, bytes, difference}
-use Rattle.paper.specs.Fields.{Judged, passed, _andThen_, unless, inRanges, header, field, ending, place, dueField, fields}
-use Rattle.paper.specs.Fields.{headField, controllerField, taskValues, outsideField, fedField, taskField, pathField}
-use Rattle.paper.specs.Tables.{Source, outside, fed, streamAt, sourceAt, taskAt, partAt, planOf}
-use Rattle.paper.specs.Refusals.{read, feeder, back, WellFormed}
-use Rattle.paper.specs.Streams.{d, roundedUp, mostEvents, delayed}
-use Rattle.paper.specs.Windows.{output, rival, interference}
-use Rattle.paper.specs.Sets.{streamOf, inputsBack, inputs}
-use Rattle.paper.specs.Load.{periodOf, period, periods, otherPeriods, work}
-use Rattle.paper.specs.Report.{recordOf, headRecord, taskRecord, verdict, pathRecord, along, each}
-use Rattle.paper.specs.Report.{taskReport, pathReport, report, reportLength}
+use Rattle.paper.specs.Bytes.{Bytes, bytes, difference}
+use Rattle.paper.specs.Fields.{passed}
+use Rattle.paper.specs.Tables.{Source, outside, fed, planOf}
+use Rattle.paper.specs.Refusals.{WellFormed}
+use Rattle.paper.specs.Report.{recordOf, headRecord, taskRecord, verdict, pathRecord, each, reportLength}
 use Rattle.paper.specs.Answer.{Due}
-use Rattle.theory.specs.Twin.Finding.{lowest, row, longer}
-use Rattle.theory.specs.Twin.Window.{search, window}
-use Rattle.theory.specs.Twin.Bound.{look, bound}
-use Rattle.theory.specs.Twin.Sweeps.{sweep, differ, after, sweeps, ended}
-use Rattle.theory.specs.Twin.Judge.{sharing, isFed, endless, feeds, broken, crowded, overloaded, refusedAt, judge}
-use Rattle.theory.specs.Twin.Answer.{Outcome, refusal, space, swept, loaded, weighed, before11, passed-well, weighed-due}
+use Rattle.theory.specs.Twin.Answer.{Outcome, refusal, space}
+use Rattle.theory.specs.Twin.Computed.{computed, computed-well, computed-due}
 use Rattle.theory.specs.Case.J
 
 infix 80 _gets_
@@ -32,18 +20,27 @@ infix 80 _gets_
 abbrev pub every : (P J : ℕ) → Source
 every P J = outside (record { P = P; J = J })
 
--- A task's field, a 20 or a 21, with C- = C+ = C.
+-- A task's field, a 20 or a 21.
+unfoldable pub taskBetween : (controller priority C- C+ : ℕ) → Source → Bytes
+unfolding recordOf bytes
+taskBetween controller priority C- C+ (outside M) =
+    recordOf 0x20 (controller ∷ priority ∷ bytes 4 C- ++ bytes 4 C+ ++ bytes 4 (M .P) ++ bytes 4 (M .J))
+taskBetween controller priority C- C+ (fed j) =
+    recordOf 0x21 (controller ∷ priority ∷ bytes 4 C- ++ bytes 4 C+ ++ (j ∷ []))
+
+-- A task's field with C- = C+ = C.
 unfoldable pub taskOf : (controller priority C : ℕ) → Source → Bytes
-taskOf controller priority C (outside M) =
-    recordOf 0x20 (controller ∷ priority ∷ bytes 4 C ++ bytes 4 C ++ bytes 4 (M .P) ++ bytes 4 (M .J))
-taskOf controller priority C (fed j) = recordOf 0x21 (controller ∷ priority ∷ bytes 4 C ++ bytes 4 C ++ (j ∷ []))
+unfolding taskBetween
+taskOf controller priority C = taskBetween controller priority C C
 
 -- A path's field.
 unfoldable pub pathOf : (deadline : ℕ) → List ℕ → Bytes
+unfolding recordOf bytes
 pathOf deadline tasks = recordOf 0x30 (bytes 4 deadline ++ tasks)
 
 -- A plan: its head and its controllers' fields, then its tasks' and its paths'.
 unfoldable pub plan : (controllers : ℕ) → (tasks paths : List Bytes) → Bytes
+unfolding recordOf bytes each flatten
 plan controllers tasks paths =
     recordOf 0x01 (1 ∷ controllers ∷ length tasks ∷ length paths ∷ [])
     ++ each controllers (λ c. recordOf 0x10 (c ∷ 1 ∷ []))
@@ -56,6 +53,7 @@ accepted sweeps report = record { answer = record { number = 0; place = length r
 
 -- The outcome with an accepted report, given by its tasks' records and its paths'.
 unfoldable pub reported : (sweeps : ℕ) → (tasks paths : List Bytes) → Outcome
+unfolding headRecord taskRecord pathRecord recordOf verdict difference bytes flatten
 reported sweeps tasks paths =
     accepted sweeps (headRecord sweeps (length tasks) (length paths) ++ flatten tasks ++ flatten paths)
 
@@ -68,13 +66,20 @@ pub record Run : Type 0 where
 abbrev pub _gets_ : Bytes → Outcome → Run
 s gets o = record { plan = s; outcome = o }
 
--- C's plan.
+-- C's plan,
 unfoldable pub C : Bytes
+unfolding plan taskOf
 C = plan 1 (taskOf 0 1 1 (every 2 0) ∷ taskOf 0 2 1 (every 2 0) ∷ []) []
+
+-- and its outcome.
+unfoldable pub C-outcome : Outcome
+unfolding reported
+C-outcome = reported 2 (taskRecord 0 1 1 0 0 1 ∷ taskRecord 1 1 2 0 1 1 ∷ []) []
 
 -- The starred runs. A task's record holds its number, R-, R+, input jitter, output jitter and jobs looked at; a path's its
 -- number, deadline, best and worst. Document 01 leaves the priorities and I's deadlines open; here they are 1 and 2, and 20.
 unfoldable pub table : List Run
+unfolding C C-outcome plan taskOf pathOf reported
 table =
     -- A: C 3, P 10. R+ 3, one job, one sweep.
     plan 1 (taskOf 0 1 3 (every 10 0) ∷ []) [] gets reported 1 (taskRecord 0 3 3 0 0 1 ∷ []) []
@@ -82,7 +87,7 @@ table =
     ∷ plan 1 (taskOf 0 1 2 (every 5 0) ∷ taskOf 0 2 4 (every 20 0) ∷ []) []
     gets reported 2 (taskRecord 0 2 2 0 0 1 ∷ taskRecord 1 4 8 0 4 1 ∷ []) []
     -- C: twice C 1, P 2. R+ 1 and 2; d(2) = B(1) ends the look.
-    ∷ C gets reported 2 (taskRecord 0 1 1 0 0 1 ∷ taskRecord 1 1 2 0 1 1 ∷ []) []
+    ∷ C gets C-outcome
     -- D: C 10, P 10: R+ 10.
     ∷ plan 1 (taskOf 0 1 10 (every 10 0) ∷ []) [] gets reported 1 (taskRecord 0 10 10 0 0 1 ∷ []) []
     -- E: the same with J 1: refusal 13, place 0, sweep 1.
@@ -110,25 +115,9 @@ table =
     ∷ J.plan 61 gets accepted 2 (J.printed 2 (replicate 8 0xFF))
     ∷ []
 
--- What the twin computes of a run's plan: the refusal judged before 11, if there is one, and the outcome with room enough.
-abbrev computed : Run → Judged × Outcome
-computed run = (before11 (run .plan), weighed (planOf (run .plan)))
-
--- What document 01 says of it.
-abbrev expected : Run → Judged × Outcome
-expected run = (passed, run .outcome)
-
--- The two are the same for every run of the table.
-same : map computed table ≡ map expected table
-unfolding table C plan taskOf pathOf reported flatten recordOf bytes each headRecord taskRecord pathRecord difference verdict
-    before11 read _andThen_ unless inRanges header field ending place dueField fields number
-    headField controllerField taskValues outsideField fedField taskField pathField
-    planOf taskAt sourceAt streamAt partAt
-    judge refusedAt lowest orElse sharing endless isFed broken feeds crowded overloaded
-    any count sum product feeder back periodOf period periods otherPeriods work
-    weighed loaded swept ended sweeps after differ sweep row longer bound look window search bind
-    interference rival mostEvents roundedUp d inputs inputsBack streamOf output delayed
-    report reportLength taskReport pathReport along
+-- What the twin computes of a run's plan is what document 01 says of it, for every run of the table.
+same : map (λ run. computed (run .plan)) table ≡ map (λ run. (passed, run .outcome)) table
+unfolding table computed
 same = refl
 
 -- Where two functions are the same all along a list, they are at each of its members.
@@ -138,14 +127,16 @@ at-each f g (x ∷ l) e a h =
     let both = cons-eq-cons .0 e in
     elim (List·Memᴰ·cases-cons h) [ inl here ↦ rw here (both .0) | inr later ↦ at-each f g l (both .1) a later ]
 
+-- So it is for each of them.
+starred-computed : (run : Run) → List·Memᴰ run table → computed (run .plan) ≡ (passed, run .outcome)
+starred-computed = at-each _ _ table same
+
 -- The plan of every starred run is well-formed.
 pub starred-well : (run : Run) → List·Memᴰ run table → WellFormed (run .plan)
-starred-well run h = passed-well (run .plan) (ap (λ o. o .0) (at-each computed expected table same run h))
+starred-well run h = computed-well (run .plan) (run .outcome) (starred-computed run h)
 
 -- For every starred run, with room enough for its report, the answer that is due and what the report space then holds are the
 -- run's.
 pub starred : (run : Run) → List·Memᴰ run table → (room : ℕ) → reportLength (planOf (run .plan)) ≤ room
     → Due (run .plan) room (run .outcome .answer) (space room (run .outcome .report))
-starred run h room enough =
-    let e = at-each computed expected table same run h in
-    rw (sym (ap (λ o. o .1) e)) (weighed-due (run .plan) room (starred-well run h) enough)
+starred run h = computed-due (run .plan) (run .outcome) (starred-computed run h)

@@ -6,3 +6,4 @@ pub mod Bound
 pub mod Sweeps
 pub mod Judge
 pub mod Answer
+pub mod Computed
