@@ -18,7 +18,7 @@ fn put_report(report: &[u8], count: usize, text: &mut [u8]) -> usize
     requires { (count ≤ length report.now) × (count ≤ report_bytes) × (2 * count ≤ length text.old) }
     ensures { Put text.old 0 (hex_of (take count report.now)) text.new result }
 {
-    hex::write(&report[..count], text);
+    hexadecimal::write(&report[..count], text);
     2 * count
 }
 

@@ -2,7 +2,8 @@
 -- and leave the limits exactly when no consistent set is within them.
 pub mod Bridge
 use Rattle.std.specs.Prelude.{ℕ, zero, suc, ◌+◌, ◌-◌, ◌*◌, ◌≤◌, ◌≡◌, ◌⊎◌, ◌↔◌}
-use Rattle.std.proofs.Math.Logic.{⊎_map, Iff·symm, Iff·trans}
+use Rattle.std.proofs.Math.Logic.{⊎_map}
+use Rattle.std.proofs.Math.Logic.Iff as Iff
 use Rattle.paper.specs.Words.{IsLeast, sum}
 use Rattle.paper.specs.Limits.{most_ticks}
 use Rattle.paper.specs.Tables.{Plan}
@@ -11,7 +12,7 @@ use Rattle.paper.specs.Sweeps.{Sweep, Settles, Leaves, Leaving}
 use Rattle.theory.specs.Numbers.Least.{least_same}
 use Rattle.theory.specs.Sweeps.Climb
 use Rattle.theory.specs.Sweeps.Climb.{Below, Same, Climbing}
-use Bridge.{equations, some, some-two, settles, leaves, leaving, fits, least-set}
+use Bridge.{equations, some, some_two, settles, leaves, leaving, fits, least_set}
 
 -- After m sweeps of a plan, each of which changed something, the set is R.
 abbrev pub Reached : Plan → ℕ → Bounds → Type 0
@@ -46,7 +47,7 @@ module _ (p : Plan) (laws : Climbing (equations p) most_ticks) where
 
   -- "The report gives the least consistent set within limits": it is the set in which the sweeps settle.
   pub settled_least : {m : ℕ} {R : Bounds} → Settles p m R → LeastSet p R
-  settled_least {m} {R} t = (least-set p R).1 (Climb.Outcome.settled_least laws ((settles p m R).0 t))
+  settled_least {m} {R} t = (least_set p R).1 (Climb.Outcome.settled_least laws ((settles p m R).0 t))
 
   -- It is below every consistent set, within limits or not.
   pub least_of_all : {m : ℕ} {R : Bounds} → Settles p m R → (R' : Bounds) → Consistent p R' → Below p.tasks R R'
@@ -54,7 +55,7 @@ module _ (p : Plan) (laws : Climbing (equations p) most_ticks) where
 
   -- The sweeps settle, or leave the limits,
   pub decided : ((m : ℕ) × (R : Bounds) × Settles p m R) ⊎ ((m : ℕ) × (k : ℕ) × Leaving p m k)
-  decided = ⊎_map (some-two (settles p)).1 (some-two (leaving p)).1 (Climb.Outcome.decided laws)
+  decided = ⊎_map (some_two (settles p)).1 (some_two (leaving p)).1 (Climb.Outcome.decided laws)
 
   -- and never both.
   pub never_both : {m m' k : ℕ} {R : Bounds} → Settles p m R → Leaving p m' k → ⊥
@@ -62,12 +63,12 @@ module _ (p : Plan) (laws : Climbing (equations p) most_ticks) where
 
   -- A plan has bounds exactly when some consistent set lies within the limits.
   pub some_bound : ((m : ℕ) × (R : Bounds) × Settles p m R) ↔ ((R : Bounds) × Fits p R)
-  some_bound = Iff·trans (some-two (settles p)) (Iff·trans (Climb.Outcome.some_bound laws) (Iff·symm (some (fits p))))
+  some_bound = Iff.trans (some_two (settles p)) (Iff.trans (Climb.Outcome.some_bound laws) (Iff.symm (some (fits p))))
 
   -- A plan is refused for having no bound exactly when no consistent set lies within the limits.
   pub no_bound : ((m : ℕ) × (k : ℕ) × Leaving p m k) ↔ ((R : Bounds) → Fits p R → ⊥)
   no_bound =
-      let same = Iff·trans (some-two (leaving p)) (Climb.Outcome.no_bound laws) in
+      let same = Iff.trans (some_two (leaving p)) (Climb.Outcome.no_bound laws) in
       (λ o R f. same.0 o R ((fits p R).0 f), λ none. same.1 (λ R f. none R ((fits p R).1 f)))
 
   -- The sweep number and the set in which the sweeps settle are one number and one set.

@@ -163,7 +163,7 @@ judges_first number Wrong table (some k) later first others = inl (refl, first)
 pub judge_says : (p : Plan) → Feeders p → Judges (rules p) (judge p)
 unfolding rules judge
 judge_says p feeders =
-    judges_first 7 (Sharing p) _ _ _ (lowest_says (sharing_tells p))
-    (judges_first 8 (Endless p) _ _ _ (lowest_says (endless_tells p feeders))
-    (judges_first 9 (Broken p) _ _ _ (lowest_says (broken_tells p))
+    judges_first 7 (Sharing p) (rule 8 (Endless p) ∷ rule 9 (Broken p) ∷ rule 10 (Crowded p) ∷ []) _ _ (lowest_says (sharing_tells p))
+    (judges_first 8 (Endless p) (rule 9 (Broken p) ∷ rule 10 (Crowded p) ∷ []) _ _ (lowest_says (endless_tells p feeders))
+    (judges_first 9 (Broken p) (rule 10 (Crowded p) ∷ []) _ _ (lowest_says (broken_tells p))
     (judges_first 10 (Crowded p) [] _ passed (lowest_says (crowded_tells p)) tt)))

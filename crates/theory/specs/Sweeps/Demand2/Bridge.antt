@@ -1,6 +1,6 @@
 -- A plan's sweeps are those of `Climb`, over the equations that the plan gives.
 use Rattle.std.specs.Prelude.{ℕ, zero, suc, ◌↔◌}
-use Rattle.std.proofs.Math.Logic.{Iff·rfl, Iff·and}
+use Rattle.std.proofs.Math.Logic.Iff as Iff
 use Rattle.paper.specs.Tables.{Plan}
 use Rattle.paper.specs.Sets.{Bounds, inputs, Fits, LeastSet}
 use Rattle.paper.specs.Windows.{Bound, Bounded, setting}
@@ -32,14 +32,14 @@ some_two same = (λ s. (s.0, s.1, (same s.0 s.1).0 s.2), λ s. (s.0, s.1, (same 
 module _ (p : Plan) where
   -- By the plan and by its equations, the sets after m sweeps are the same,
   pub swept : (m : ℕ) (R : Bounds) → Swept p m R ↔ Climb.Swept (equations p) m R
-  swept zero R = Iff·rfl
+  swept zero R = Iff.rfl
   swept (suc m) R =
       (λ s. (s.0, (swept m s.0).0 s.1, s.2), λ s. (s.0, (swept m s.0).1 s.1, s.2))
 
   -- the sweeps that changed nothing are the same,
   pub unchanged : (m : ℕ) (R : Bounds) → Unchanged p R m ↔ Climb.Unchanged (equations p) R m
-  unchanged zero R = Iff·rfl
-  unchanged (suc m) R = Iff·and (swept m R) Iff·rfl
+  unchanged zero R = Iff.rfl
+  unchanged (suc m) R = Iff.and (swept m R) Iff.rfl
 
   -- and the sweeps settle in the same sets at the same numbers;
   pub settles : (m : ℕ) (R : Bounds) → Settles p m R ↔ Climb.Settles (equations p) m R
@@ -58,7 +58,7 @@ module _ (p : Plan) where
 
   -- those that leave them in a sweep are the same,
   pub leaves_in : (m k : ℕ) → LeavesIn p m k ↔ Climb.LeavesIn (equations p) m k
-  leaves_in zero k = Iff·rfl
+  leaves_in zero k = Iff.rfl
   leaves_in (suc m) k = (
     λ o. (o.0, (swept m o.0).0 o.1, (leaves o.0 k).0 o.2),
     λ o. (o.0, (swept m o.0).1 o.1, (leaves o.0 k).1 o.2),

@@ -1,4 +1,4 @@
--- `hex::write` meets its contract.
+-- `hexadecimal::write` meets its contract.
 use borrow.Author.Rules.{rules}
 use Prim.Native.Nat.{◌≤◌, ◌<◌, ◌+◌, ◌*◌, ◌-◌}
 use mathlib.Core.Path.{◌≡◌, refl, ◌∙◌}
@@ -6,9 +6,9 @@ use native.Mathlib.Omega.{arith}
 use lib.ListN.{length, set, length-set, drop}
 use lib.Seq.{sets, drop-length}
 use Rattle.paper.specs.Line.{hex_of}
-use Rattle.hex.proofs.Laws.{byte_more}
-use Rattle.hex.proofs.write.Statement.{statement}
-use Rattle.hex.proofs.write.Tie as tie
+use Rattle.hexadecimal.proofs.Laws.{byte_more}
+use Rattle.hexadecimal.proofs.write.Statement.{statement}
+use Rattle.hexadecimal.proofs.write.Tie as tie
 
 abbrev invariant_loop : tie.invariant_loop
 invariant_loop bytes text₀ i₀ text i =

@@ -1,9 +1,9 @@
--- `hex::digit` meets its contract.
+-- `hexadecimal::digit` meets its contract.
 use borrow.Author.Rules.{rules}
 use borrow.Author.Tests.{lt-ltb, le-ltb}
 use Rattle.paper.specs.Line.{digit_of}
-use Rattle.hex.proofs.digit.Statement.{statement}
-use Rattle.hex.proofs.digit.Tie as tie
+use Rattle.hexadecimal.proofs.digit.Statement.{statement}
+use Rattle.hexadecimal.proofs.digit.Tie as tie
 
 returns : tie.Need-returns
 unfolding digit_of
