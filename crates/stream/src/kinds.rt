@@ -2,19 +2,19 @@
 ghost use Rattle.std.specs.Prelude.{◌≡◌, ◌-◌};
 
 // A tick, or a length of time: "Time is whole ticks."
-#[derive(Drop)]
+#[derive(Clone, Copy)]
 pub struct Ticks(pub u64);
 
 // A count of events, or of the jobs that events activate.
-#[derive(Drop)]
+#[derive(Clone, Copy)]
 pub struct Events(pub u64);
 
 // The number of a task, counted from 0.
-#[derive(Drop)]
+#[derive(Clone, Copy)]
 pub struct TaskNo(pub usize);
 
 // The number of a controller, counted from 0.
-#[derive(Drop)]
+#[derive(Clone, Copy)]
 pub struct ControllerNo(pub usize);
 
 impl Ticks {

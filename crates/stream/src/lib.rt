@@ -1,4 +1,5 @@
 // What every later crate counts and measures with: the kinds of number, and the event models of streams.
+#![tactic(auto)]
 mod kinds;
 mod model;
 

@@ -6,7 +6,7 @@ ghost use Rattle.stream.specs.Model.{model_of};
 use crate::kinds::{Events, Ticks};
 
 // An event model: the period and the jitter of a stream.
-#[derive(Drop)]
+#[derive(Clone, Copy)]
 pub struct EventModel {
     pub period: Ticks,
     pub jitter: Ticks,
