@@ -1,5 +1,6 @@
 // Every number of document 01 that is a limit: the one home in code of what specs/Limits.antt of `paper` defines.
 #![tactic(auto)]
+
 ghost use Rattle.std.specs.Prelude.{◌≡◌};
 ghost use Rattle.paper.specs.Limits.{plan_bytes, most_controllers, most_tasks, most_paths, most_sharing};
 ghost use Rattle.paper.specs.Limits.{most_steps, most_cost, most_ticks, most_jobs};

@@ -1,5 +1,6 @@
 // What every later crate counts and measures with: the kinds of number, and the event models of streams.
 #![tactic(auto)]
+
 mod kinds;
 mod model;
 
