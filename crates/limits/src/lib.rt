@@ -38,14 +38,14 @@ pub const JOBS: u64 = 1_024;
 
 // The limits are those of the definitions.
 fn agree()
-    ensures plan_bytes_value { PLAN_BYTES ≡ plan_bytes }
-    ensures value { CONTROLLERS ≡ most_controllers }
-    ensures value_2 { TASKS ≡ most_tasks }
-    ensures value_3 { PATHS ≡ most_paths }
-    ensures value_4 { SHARING ≡ most_sharing }
-    ensures report_bytes_value { REPORT_BYTES ≡ report_bytes }
-    ensures value_5 { STEPS ≡ most_steps }
-    ensures value_6 { COST ≡ most_cost }
-    ensures value_7 { TICKS ≡ most_ticks }
-    ensures value_8 { JOBS ≡ most_jobs }
+    ensures plan { PLAN_BYTES ≡ plan_bytes }
+    ensures controllers { CONTROLLERS ≡ most_controllers }
+    ensures tasks { TASKS ≡ most_tasks }
+    ensures paths { PATHS ≡ most_paths }
+    ensures sharing { SHARING ≡ most_sharing }
+    ensures report { REPORT_BYTES ≡ report_bytes }
+    ensures steps { STEPS ≡ most_steps }
+    ensures cost { COST ≡ most_cost }
+    ensures ticks { TICKS ≡ most_ticks }
+    ensures jobs { JOBS ≡ most_jobs }
 {}
