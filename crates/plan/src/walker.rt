@@ -5,7 +5,7 @@ ghost use Rattle.plan.specs.Places.{Begins, Stepped};
 use crate::places::step_from;
 
 // The plan, and the place in it.
-#[derive(Drop)]
+#[derive(Clone, Copy)]
 pub(crate) struct Walker<'a> {
     pub(crate) plan: &'a [u8],
     pub(crate) at: usize,
