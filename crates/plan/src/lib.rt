@@ -1,4 +1,5 @@
 // Reading a plan: any bytes to the tables, or a refusal.
+#![tactic(auto)]
 mod bytes;
 mod fields;
 mod judged;

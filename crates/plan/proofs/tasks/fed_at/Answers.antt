@@ -1,13 +1,9 @@
--- `plan::tasks::fed_at` meets its contract.
-use Prim.Native.Nat.{ℕ}
-use mathlib.Core.Path.{◌≡◌, refl}
-use mathlib.Core.Bool.{Bool, true, false, cond}
-use borrow.Author.Rules.{rules}
+-- `fed_at` says whether a task is fed by another one.
+use Rattle.std.proofs.Common.{ℕ, ◌≡◌, refl, Bool, true, false, cond}
 use Rattle.paper.specs.Streams.{Stream}
 use Rattle.paper.specs.Tables.{outside, fed, source_at}
 use Rattle.plan.specs.Tables.{is_fed}
-use Rattle.plan.proofs.tasks.fed_at.Statement.{statement}
-use Rattle.plan.proofs.tasks.fed_at.Tie as tie
+use Rattle.plan.proofs.tasks.fed_at.Goals as goal
 
 -- A test that picks between a feeder and a stream from outside says whether the source is another task.
 picked : (test : Bool) (feeder : ℕ) (M : Stream) → test ≡ is_fed (cond test (fed feeder) (outside M))
@@ -15,9 +11,7 @@ unfolding is_fed
 picked true feeder M = refl
 picked false feeder M = refl
 
-returns : tie.Need-returns
+-- The tag is that test.
+pub returns : goal.returns
 unfolding source_at
 returns c = rw c.byte_at.ensures.0 (picked _ _ _)
-
-pub fed_at_spec : {M : Type 1} → statement M
-fed_at_spec = tie.close (tie.spec (search rules) returns)
