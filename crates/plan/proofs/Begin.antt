@@ -1,8 +1,5 @@
 -- A field begins where the last one ended.
-use Prim.Native.Nat.{ℕ, ◌+◌, ◌<◌}
-use native.Mathlib.Numerals.{add-one}
-use native.Mathlib.Omega.{arith}
-use mathlib.Core.Path.{refl}
+use Rattle.std.proofs.Common.{ℕ, ◌+◌, ◌<◌, add-one, arith, refl}
 use Rattle.paper.specs.Bytes.{Bytes}
 use Rattle.paper.specs.Fields.{place}
 use Rattle.plan.specs.Places.{Begins, Stepped}

@@ -1,5 +1,5 @@
 -- A row of judges is judged in order, however it is bracketed.
-use mathlib.Core.Path.{◌≡◌, refl}
+use Rattle.std.proofs.Common.{◌≡◌, refl}
 use Rattle.paper.specs.Fields.{Judged, passed, refused, ◌and_then◌}
 
 -- The first refusal of three is that of the first, then of the other two.

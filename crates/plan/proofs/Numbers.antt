@@ -1,8 +1,5 @@
 -- The numbers of two and of four bytes, from those of their halves.
-use Prim.Native.Nat.{ℕ, ◌+◌, ◌*◌}
-use native.Mathlib.Nat.{add-zero, add_assoc}
-use native.Mathlib.Omega.{arith}
-use mathlib.Core.Path.{◌≡◌}
+use Rattle.std.proofs.Common.{ℕ, ◌+◌, ◌*◌, add-zero, add_assoc, arith, ◌≡◌}
 use Rattle.paper.specs.Bytes.{Bytes, number}
 
 -- A number of two bytes is made of two of one.

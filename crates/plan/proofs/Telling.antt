@@ -1,8 +1,5 @@
 -- A plan's columns tell its tasks.
-use Prim.Native.Nat.{◌≤◌}
-use native.Mathlib.Omega.{arith}
-use mathlib.Core.Path.{refl}
-use mathlib.Core.Bool.{false}
+use Rattle.std.proofs.Common.{◌≤◌, arith, refl, false}
 use Rattle.paper.specs.Limits.{most_tasks}
 use Rattle.paper.specs.Tables.{Plan}
 use Rattle.plan.specs.Tables.{task_columns, Told}

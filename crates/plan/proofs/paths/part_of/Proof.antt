@@ -1,8 +1,5 @@
 -- `plan::paths::part_of` meets its contract.
-use Prim.Native.Nat.{◌+◌, ◌-◌}
-use native.Mathlib.Omega.{arith}
-use mathlib.Core.Path.{◌≡◌, refl}
-use borrow.Author.Rules.{rules}
+use Rattle.std.proofs.Common.{◌+◌, ◌-◌, arith, ◌≡◌, refl, rules}
 use Rattle.plan.proofs.paths.part_of.Statement.{statement}
 use Rattle.plan.proofs.paths.part_of.Tie as tie
 

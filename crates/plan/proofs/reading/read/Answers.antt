@@ -1,6 +1,6 @@
 -- `read` judges a plan field by field.
 use Rattle.std.proofs.Common.{◌≡◌, refl, add-one, arith, le-leb}
-use Rattle.std.proofs.Math.Tests.{lt-leb}
+use Rattle.std.proofs.lemmas.Bool.{lt-leb}
 use Rattle.paper.specs.Fields.{◌and_then◌, unless, fields, due_fields}
 use Rattle.paper.specs.Refusals.{read}
 use Rattle.plan.proofs.Chain.{chain}
