@@ -1,33 +1,40 @@
 // Standard input, up to as many bytes as there is space for.
 ghost use Rattle.io.specs.Counts.{IsPrefixLen};
 
-use libc::STDIN_FILENO;
+use std::io;
+use std::io::Read;
 
-// What came: so many bytes, at the front of the space, and whether a read failed.
+// What came: so many bytes, at the front of the space, and why a read failed, if one did.
 #[derive(Drop)]
 pub struct Input {
     pub bytes: usize,
-    pub failed: bool,
+    pub failed: Option<io::Error>,
 }
 
 // Reads until the space is full, the input ends or a read fails.
-pub fn read_up_to(space: &mut [u8]) -> Input
+pub fn read_up_to<R: Read>(reader: &mut R, space: &mut [u8]) -> Input
     ensures { IsPrefixLen result.bytes space.new }
 {
     let mut n = 0;
     while n < space.len() {
-        let got = libc::read(STDIN_FILENO, &mut space[n..]);
-        let more = io::count(got, &space[n..]);
-        if more == 0 {
-            return Input {
-                bytes: n,
-                failed: got < 0,
-            };
+        match reader.read(&mut space[n..]) {
+            Ok(0) => {
+                return Input {
+                    bytes: n,
+                    failed: None,
+                };
+            }
+            Ok(more) => n += more,
+            Err(error) => {
+                return Input {
+                    bytes: n,
+                    failed: Some(error),
+                };
+            }
         }
-        n += more;
     }
     Input {
         bytes: n,
-        failed: false,
+        failed: None,
     }
 }
