@@ -130,9 +130,9 @@ class NoAnswers(unittest.TestCase):
 
     def test_program_says_what_failed(self):
         """The program itself has no exit status, but it says on standard error what failed."""
-        said = shell(f"target/bin/late < {CASE_J} > /dev/full")
+        said = shell(f"crates/late/out/late < {CASE_J} > /dev/full")
         self.assertEqual(said, (0, "", "late: standard output: No space left on device\n"))
-        self.assertEqual(shell("target/bin/late < /"), (0, "", "late: standard input: Is a directory\n"))
+        self.assertEqual(shell("crates/late/out/late < /"), (0, "", "late: standard input: Is a directory\n"))
 
     def test_input_that_fails(self):
         for shown in "dash ./late", "bash ./late":
@@ -240,7 +240,7 @@ class Stale(unittest.TestCase):
         folder = tempfile.TemporaryDirectory()
         self.addCleanup(folder.cleanup)
         self.copy = Path(folder.name) / "copy of it"
-        skipped = shutil.ignore_patterns(".git", "must-fail", "inc", "second", "vectors")
+        skipped = shutil.ignore_patterns(".git", "must-fail", "out", "second", "vectors")
         shutil.copytree(ROOT, self.copy, ignore=skipped)
         (self.copy / "crates.txt").write_text(re.sub("(?m)^vectors:.*", "", (ROOT / "crates.txt").read_text()))
 
@@ -261,7 +261,8 @@ class Stale(unittest.TestCase):
 
     def test_stale(self):
         """Another program, other sources, broken sources: it is proved again or does not answer."""
-        program = self.copy / "target/bin/late"
+        program = self.copy / "crates/late/out/late"
+        program.parent.mkdir()
         shutil.copy("/bin/true", program)
         self.assert_interrupted()
         status, output, error = self.late()
@@ -273,7 +274,7 @@ class Stale(unittest.TestCase):
         status, output, error = self.late()
         self.assertEqual((status, output), (2, ""))
         log = re.search(r"\nlate: not proved: .*; the whole log is (.*)\n\Z", error)[1]
-        self.assertIn("late NOT PROVED", Path(log).read_text())
+        self.assertIn("fn late::main: no proof", Path(log).read_text())
 
 
 if __name__ == "__main__":

@@ -8,62 +8,53 @@ from pathlib import Path
 
 SCRIPT = Path(__file__).resolve().parent / "must-fail"
 
-# Errors as the prover words them. A long one goes on in lines that begin with spaces.
-FACT = "WHERE/proofs/f/Proof.antt:7:13: error: `returns`: `omega`: the goal does not follow from what it read\n"
-LEFT = """WHERE/proofs/f/Proof.antt:7:13: error: `returns`: give a proof of that as the last argument, `simp L t`
-  `simp` has no last argument, so what it leaves must be a path whose two ends are equal, and `Path ℕ 1 2`
-  is none
-"""
-NOTE = "note: WHERE/src/lib.rt:7:1: it is not proved that what the function ensures holds when it returns (`returns`)\n"
-FOLLOWS = "WHERE/proofs/g/Proof.antt:9:5: error: `g-spec`: `close` was not admitted (it was rejected), so this cannot be checked\n"
-FIELD = "WHERE/proofs/f/Proof.antt:7:17: error: `returns`: record `Lts.After-within` has no field `unless3`\n"
-LONG_FIELD = FIELD.replace("within` has", "shared-slice-known3`\n  has")
-NEED = "WHERE/proofs/f/Proof.antt:7:11: error: `returns`: `tie.Need-x`: module `f.Tie` has no `Need-x` that can be named from here\n"
-SCOPE = "WHERE/proofs/f/Proof.antt:7:15: error: `returns`: `drop-len` is not in scope\n"
-PAIR = "WHERE/proofs/f/Proof.antt:7:84: error: `returns`: `.3` projects from a `×` type or a record, but this has type `ℕ`\n"
-FUNCTION = "WHERE/proofs/f/Proof.antt: error: `hex` has no function `f` for this file to be the proof of\n"
-COMPILER = "WHERE/src/lib.rt:13:8: error[unknown-name]: cannot find value `n` in this scope\n"
+# What the kit says of an edit behind its name, as it words it.
+FACT = "refused, as it must be: ./proofs/f/Answers.antt:14:13: error: `returns`: `omega`: the goal does not follow from what it read. All"
+NOTE = "refused, as it must be: note: src/lib.rt:40:1: it is not proved that what the function ensures holds when it returns (`returns`)"
+BARE = "refused, as it must be"
+NAME = "refused, as it must be (only because a proof file names what the edit took away, so this says little of the contract: change a value and keep the names): ./proofs/f/Answers.antt:7:17: error: `returns`: record `C` has no field `if-a`"
+LIMIT = "refused, as it must be (only by a limit of the prover, which gave no verdict, so this says less of the contract: choose a change that it refuses sooner): steps"
+BAD = "BAD EDIT: the prover cannot read the edited text, so no contract was tried: src/lib.rt:13:8: error[unknown-name]"
+MISSED = "NOT REFUSED: the crate is still proved with this edit (one that means the same as before cannot be refused: remove it)"
+UNSURE = "NOT TRIED: its check was killed, so nothing is known of it: run this again"
 
 
-def run_script(logs):
-    """What the script does where each edit of the crate hex has that log, or none: its exit status, its output and its standard error."""
+def run_script(said):
+    """What the script does where the kit says that of each edit of the crate hex, or nothing: its exit status, output and standard error."""
     with tempfile.TemporaryDirectory() as folder:
-        for edit, log in logs.items():
+        lines = ["== hex", "logic=proved functions=2"]
+        for edit, words in said.items():
             file = Path(folder, "crates/hex/must-fail", f"{edit}.edit")
             file.parent.mkdir(parents=True, exist_ok=True)
             file.touch()
-            if log is not None:
-                where = Path(folder, "target/must-fail/hex", edit)
-                where.mkdir(parents=True)
-                (where / ".log").write_text(log.replace("WHERE", str(where)) + "logic=not-proved\n", encoding="utf-8")
-        done = subprocess.run([SCRIPT, folder], capture_output=True, text=True, check=False)
-        return done.returncode, done.stdout, done.stderr.replace(folder, "FOLDER")
+            lines += [f"rt: must-fail hex/{edit}.edit: {words}"] if words else []
+        log = Path(folder, "log")
+        log.write_text("\n".join(lines) + "\n2 passed, 0 failed\n", encoding="utf-8")
+        done = subprocess.run([SCRIPT, log, "--of", folder], capture_output=True, text=True, check=False)
+        return done.returncode, done.stdout, done.stderr
 
 
 class MustFail(unittest.TestCase):
     """The script as it is called."""
 
     def test_facts(self):
-        """An edit is not named where its first error is at a fact, whatever comes after it."""
-        logs = {"fact": FACT + FIELD, "left": LEFT, "note": NOTE, "note_behind": FOLLOWS + NOTE}
-        self.assertEqual(run_script(logs), (0, "", ""))
+        """An edit is not named where a fact refused it."""
+        self.assertEqual(run_script({"fact": FACT, "note": NOTE, "bare": BARE}), (0, "", ""))
 
-    def test_missing_fields_and_names(self):
-        """An edit is named with its first error, on one line, where that speaks of a missing field or name."""
-        for error in (FIELD, LONG_FIELD, NEED, SCOPE, PAIR, FUNCTION, COMPILER):
-            with self.subTest(error):
-                line = error.replace("WHERE/", "hex/shape: ").replace("\n  ", " ")
-                self.assertEqual(run_script({"fact": FACT, "shape": FOLLOWS + error + FACT}), (1, line, ""))
+    def test_no_facts(self):
+        """An edit is named with what the kit says where no fact refused it."""
+        for words in (NAME, LIMIT, BAD, MISSED, UNSURE):
+            with self.subTest(words):
+                self.assertEqual(run_script({"fact": FACT, "shape": words}), (1, f"hex/shape: {words}\n", ""))
 
-    def test_nothing_to_read(self):
-        """An edit is named where it has no log, or a log with no error of its own."""
-        logs = {"fact": FACT, "follows": FOLLOWS, "new": None, "proved": ""}
-        named = "hex/follows: no error in its log\nhex/new: no log\nhex/proved: no error in its log\n"
-        self.assertEqual(run_script(logs), (1, named, ""))
+    def test_nothing_said(self):
+        """An edit is named where the log does not speak of it."""
+        self.assertEqual(run_script({"fact": FACT, "new": None}), (1, "hex/new: nothing is said of it\n", ""))
 
-    def test_no_logs(self):
-        message = "must-fail: no logs in FOLDER/target/must-fail: run .ci/run or rt must-fail first\n"
-        self.assertEqual(run_script({"new": None}), (2, "", message))
+    def test_no_log(self):
+        done = subprocess.run([SCRIPT, "/no/log"], capture_output=True, text=True, check=False)
+        message = "must-fail: no /no/log: run .ci/run, or rt must-fail > LOG, first\n"
+        self.assertEqual((done.returncode, done.stdout, done.stderr), (2, "", message))
 
 
 if __name__ == "__main__":

@@ -41,7 +41,7 @@ def command(name):
 
 def program(name):
     """Where the built program stands."""
-    return TARGET / "bin" / name
+    return CRATES / name / "out" / name
 
 
 def kit_identity():
@@ -74,8 +74,8 @@ def stamp_of(name, made_from):
 
 
 def sources(kit):
-    """One sum over the kit's identity and every file of the crates."""
-    files = sorted(path for path in CRATES.rglob("*") if path.is_file())
+    """One sum over the kit's identity and every file of the crates, but for what the kit made of them."""
+    files = sorted(path for path in CRATES.rglob("*") if "out" not in path.relative_to(CRATES).parts and path.is_file())
     rows = [f"{path.relative_to(ROOT)} {sum_of(path)}" for path in [LIST, *files]]
     return hashlib.sha256("\n".join([kit, platform.machine(), *rows]).encode()).hexdigest()
 
@@ -101,7 +101,7 @@ def make(name, kit):
     """Proves and builds a program and notes what it was made from."""
     made_from = sources(kit)
     log = MADE / f"{name}.log"
-    for old in program(name), TARGET / "stamp" / name:  # else the kit may take an old program for this one
+    for old in program(name), program(name).with_suffix(".stamp"):  # else the kit may take an old program for this one
         old.unlink(missing_ok=True)
     if prove(name, log) != 0:
         raise NotBuilt(f"not proved: {verdict(log)}; the whole log is {log}")
@@ -111,11 +111,11 @@ def make(name, kit):
 
 
 def prove(name, log):
-    """Has the kit prove and build a program, and shows how far it is. Hands back the kit's exit status."""
+    """Has the kit prove, build and run a program on nothing, and shows how far it is. Hands back the kit's exit status."""
     crates = reached(name)
     progress = Progress(name, len(crates))
     with open(log, "wb") as said:
-        kit = subprocess.Popen(["rt", "check", name], cwd=ROOT, stdin=subprocess.DEVNULL, stdout=said, stderr=said, start_new_session=True)
+        kit = subprocess.Popen(["rt", "run"], cwd=CRATES / name, stdin=subprocess.DEVNULL, stdout=said, stderr=said, start_new_session=True)
         try:
             while kit.poll() is None:
                 progress.show([crate for crate in proved(log) if crate in crates])
@@ -141,13 +141,13 @@ def reached(name):
 
 def proved(log):
     """The crates that a log calls proved, in its order."""
-    return re.findall(r"^rt: (\w+) proved", log.read_text(errors="replace"), re.M)
+    return re.findall(r"^crate (\w+): (?:.*\n(?!crate ))*?logic=proved", log.read_text(errors="replace"), re.M)
 
 
 def verdict(log):
-    """The last line of a log in which the kit says what failed."""
-    said = re.findall(r"^rt: (.*)$", log.read_text(errors="replace"), re.M)
-    return said[-1] if said else "the kit said nothing"
+    """The first line of a log in which the kit says what failed."""
+    said = re.search(r"^(.*: error.*|(?:fn|struct|enum) .*: (?:no proof|not proved).*)$", log.read_text(errors="replace"), re.M)
+    return said[1] if said else "the kit does not say what"
 
 
 class Progress:
