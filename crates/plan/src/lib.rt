@@ -1,5 +1,6 @@
 // Reading a plan: any bytes to the tables, or a refusal.
 #![tactic(auto)]
+
 mod bytes;
 mod fields;
 mod judged;

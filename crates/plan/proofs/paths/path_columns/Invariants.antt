@@ -1,5 +1,5 @@
 -- `path_columns` fills the columns of the paths.
-use Rattle.std.proofs.Common.{ℕ, ◌+◌, ◌-◌, ◌≤◌}
+use Rattle.std.proofs.Common.{◌+◌, ◌-◌, ◌≤◌}
 use Rattle.paper.specs.Limits.{most_paths}
 use Rattle.paper.specs.Fields.{controllers_of, tasks_of, length_at}
 use Rattle.paper.specs.Tables.{plan_of, path_place}

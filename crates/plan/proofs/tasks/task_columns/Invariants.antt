@@ -1,5 +1,5 @@
 -- `task_columns` fills the columns of the tasks.
-use Rattle.std.proofs.Common.{ℕ, ◌+◌, ◌-◌, ◌≤◌, false}
+use Rattle.std.proofs.Common.{◌+◌, ◌-◌, ◌≤◌, false}
 use Rattle.paper.specs.Limits.{most_tasks}
 use Rattle.paper.specs.Fields.{controllers_of}
 use Rattle.paper.specs.Tables.{plan_of}
