@@ -33,18 +33,6 @@ module _ {k : Setting} where
   ends_not : {q B : ℕ} → Window k q B → d k.input (q + 1) < B → Ends k q → ⊥
   ends_not w h e = omega (arith, least_one e.window w)
 
-  -- The look begins with no job.
-  pub looking_start : Looking k 0 0
-  looking_start =
-      record {
-        seen = record {
-          windows = λ q a l. absurd (omega arith);
-          covers = λ ticks y. omega arith;
-          met = λ h. absurd (omega arith);
-        };
-        on = λ q a l. absurd (omega arith);
-      }
-
   -- One job more has been looked at: the largest delay is the old one or that job's.
   seen_more : {m R B : ℕ} → Seen k m R → Window k (m + 1) B → B ≤ most_ticks
       → Seen k (m + 1) (max R (B - d k.input (m + 1)))
@@ -93,12 +81,6 @@ module _ {k : Setting} where
             let w = b.within.windows (m + 1) (omega arith) (omega arith) in
             omega (arith, none w.0 w.1)
       ]
-
-  -- A task with more jobs to look at than the limit leaves the limits.
-  pub looking_many : {m R : ℕ} → Looking k m R → most_jobs ≤ m → Outside k
-  looking_many p h R n b =
-      let last = b.within.jobs.holds in
-      p.on _ last.0 (omega arith) last.1
 
   -- When the look is over, the largest B(q) - d(q) is the bound.
   over_bound : {n R : ℕ} → Over k n R → Bound k R n

@@ -67,7 +67,7 @@ fn next<'a>(
     jitter: &'a [u64; SHARING],
     cost: &'a [u64; SHARING],
 ) -> Step
-    requires fact { let r = columns count period.now jitter.now cost.now in
+    requires looking { let r = columns count period.now jitter.now cost.now in
         Positive own r × Looking (setting_of own r) look.jobs.0 look.largest.0 }
     requires in_range { InRange own (columns count period.now jitter.now cost.now) × (look.jobs.0 < most_jobs) }
     ensures { let r = columns count period.now jitter.now cost.now in

@@ -3,7 +3,7 @@ use limits::SHARING;
 use stream::{EventModel, Ticks};
 
 // The task itself: C-, C+ and its input stream.
-#[derive(Drop)]
+#[derive(Clone, Copy)]
 pub struct Own {
     pub least: Ticks,
     pub most: Ticks,

@@ -26,7 +26,7 @@ pub fn search<'a>(
     jitter: &'a [u64; SHARING],
     cost: &'a [u64; SHARING],
 ) -> Found
-    requires fact { let r = columns count period.now jitter.now cost.now in
+    requires reached { let r = columns count period.now jitter.now cost.now in
         Recurring r × Rises (demand_of r work.0) × Reached (demand_of r work.0) from.0 }
     requires rivals_in_range { RivalsInRange (columns count period.now jitter.now cost.now) × (work.0 < 2 ^ 32) }
     ensures { let r = columns count period.now jitter.now cost.now in
