@@ -31,5 +31,5 @@ returns-else-window-apart c =
     let apart = c.least_distance-apart.ensures in (
       c.with-more.ensures.jobs,
       rw (c.with-more.ensures.jobs, c.with-more.ensures.largest)
-      (looking_more c.requires.looking.1 w.0 w.1 (omega arith)),
+          (looking_more c.requires.looking.1 w.0 w.1 (omega arith)),
     )
