@@ -1,4 +1,6 @@
 // "Load of a controller: the sum of C+/P over its tasks, exactly", compared with one.
+#![tactic(auto)]
+
 mod limbs;
 
 ghost use Rattle.std.specs.Prelude.{◌≡◌, ℕ, ◌≤◌, ◌<◌};
