@@ -1,12 +1,6 @@
 -- What the columns of a plan say of the plan.
-use Prim.Native.Nat.{ℕ, ◌≤◌, ◌<◌}
-use native.Mathlib.Decide.{dec_le}
-use native.Mathlib.Omega.{arith}
-use mathlib.Core.Path.{◌≡◌, sym, ap, ap₂, ◌∙◌}
-use mathlib.Core.Bool.{Bool, true, false, cond, not, ◌&&◌, true≢false}
-use mathlib.Core.List.{List}
-use lib.Dec.{ltb, eqb}
-use borrow.Author.Tests.{ltb-true, lt-ltb}
+use Rattle.std.proofs.Common.{ℕ, ◌≤◌, ◌<◌, arith, ◌≡◌, sym, ap, ap₂, ◌∙◌, Bool, true, false, cond, not, ◌&&◌, true≢false, List, ltb, eqb, ltb-true, lt-ltb}
+use Rattle.std.proofs.Math.Decide.{dec_le}
 use Rattle.paper.specs.Words.{count}
 use Rattle.paper.specs.Limits.{most_sharing}
 use Rattle.paper.specs.Tables.{Plan}

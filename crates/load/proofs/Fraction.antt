@@ -1,12 +1,6 @@
 -- The running pair: how the numerator and the denominator go on from task to task.
-use Prim.Native.Nat.{ℕ, zero, suc, ◌+◌, ◌*◌, ◌≤◌, ◌<◌}
-use native.Mathlib.Nat.{mul-le-mul_left, mul-le-mul_right, mul_assoc, add-zero}
-use native.Mathlib.Numerals.{add-one}
-use native.Mathlib.Omega.{arith}
-use mathlib.Core.Path.{◌≡◌, refl, ap₂, ◌∙◌}
-use mathlib.Core.Bool.{Bool, true, false, cond, not, ◌&&◌, and-true, and-false}
-use lib.Dec.{eqb}
-use borrow.Author.Tests.{eq-eqb, ne_eqb}
+use Rattle.std.proofs.Common.{ℕ, zero, suc, ◌+◌, ◌*◌, ◌≤◌, ◌<◌, mul-le-mul_left, mul-le-mul_right, mul_assoc, add-zero, add-one, arith, ◌≡◌, refl, ap₂, ◌∙◌, Bool, true, false, cond, not, ◌&&◌, eqb, eq-eqb, ne_eqb}
+use Rattle.std.proofs.Math.Bool.{and-true, and-false}
 use Rattle.paper.specs.Words.{sum, product, count}
 use Rattle.theory.specs.Numbers.Sums.{sum_ext}
 use Rattle.theory.specs.Numbers.Products.{product_ext}

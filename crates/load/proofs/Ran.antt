@@ -1,13 +1,6 @@
 -- The fraction in limbs, task by task.
-use Prim.Native.Nat.{ℕ, zero, suc, ◌+◌, ◌*◌, ◌≤◌, ◌<◌}
-use native.Mathlib.Nat.{mul-le-mul_left, mul-le-mul_right, le_refl}
-use native.Mathlib.Decide.{le_ind}
-use native.Mathlib.Omega.{arith}
-use mathlib.Core.Path.{◌≡◌, refl, ◌∙◌}
-use mathlib.Core.Bool.{Bool, true, false}
-use mathlib.Core.List.{List}
-use lib.ListN.{set, replicate}
-use lib.Seq.{get_or-set_other}
+use Rattle.std.proofs.Common.{ℕ, zero, suc, ◌+◌, ◌*◌, ◌≤◌, ◌<◌, mul-le-mul_left, mul-le-mul_right, le_refl, arith, ◌≡◌, refl, ◌∙◌, Bool, true, false, List, set, replicate, get_or-set_other}
+use Rattle.std.proofs.Math.Decide.{le_ind}
 use Rattle.paper.specs.Words.{sum, product, count}
 use Rattle.paper.specs.Limits.{most_sharing}
 use Rattle.load.specs.Limbs.{base, power, value, number, Used}

@@ -1,11 +1,5 @@
 -- The carry: a·m + b·c, limb by limb.
-use Prim.Native.Nat.{ℕ, zero, suc, ◌+◌, ◌*◌, ◌/◌, ◌%◌, ◌≤◌, ◌<◌}
-use native.Mathlib.Nat.{mul-le-mul_right, le_refl}
-use native.Mathlib.Omega.{arith}
-use mathlib.Core.Path.{◌≡◌, refl, ap, ◌∙◌}
-use mathlib.Core.List.{List}
-use lib.ListN.{get_or, set}
-use lib.Seq.{get_or-set_same, get_or-set_other}
+use Rattle.std.proofs.Common.{ℕ, zero, suc, ◌+◌, ◌*◌, ◌/◌, ◌%◌, ◌≤◌, ◌<◌, mul-le-mul_right, le_refl, arith, ◌≡◌, refl, ap, ◌∙◌, List, get_or, set, get_or-set_same, get_or-set_other}
 use Rattle.paper.specs.Limits.{most_sharing}
 use Rattle.load.specs.Limbs.{base, power, value, Limbs, Used, HasRoom, MulAdded}
 use Rattle.load.proofs.limbs.Number.{same, whole, put}

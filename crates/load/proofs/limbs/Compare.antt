@@ -1,13 +1,6 @@
 -- The comparison of two numbers in limbs.
-use Prim.Native.Nat.{ℕ, suc, ◌*◌, ◌<◌}
-use native.Mathlib.Nat.{mul-le-mul_right}
-use native.Mathlib.Decide.{dec_lt}
-use native.Mathlib.Omega.{arith}
-use mathlib.Core.Path.{◌≡◌, ap}
-use mathlib.Core.List.{List}
-use lib.Dec.{ltb}
-use lib.ListN.{get_or}
-use borrow.Author.Tests.{lt-ltb, le-ltb}
+use Rattle.std.proofs.Common.{ℕ, suc, ◌*◌, ◌<◌, mul-le-mul_right, arith, ◌≡◌, ap, List, ltb, get_or, lt-ltb, le-ltb}
+use Rattle.std.proofs.Math.Decide.{dec_lt}
 use Rattle.load.specs.Limbs.{power, value, Limbs}
 use Rattle.load.proofs.limbs.Number.{bounded}
 
