@@ -1,11 +1,8 @@
 -- A number's decimal digits, as the library puts them, are those of document 01's line.
-use Prim.Native.Nat.{ℕ, zero, suc, ◌-◌, ◌/◌, ◌%◌, ◌^◌, ◌≤◌, ◌<◌}
-use mathlib.Core.Path.{◌≡◌}
-use native.Mathlib.Nat.{pow-suc, pow-le-pow_right}
-use native.Mathlib.Omega.{arith}
-use native.Mathlib.Decide.{dec_le}
-use native.Mathlib.Numerals.{unary_clauses}
-use borrow.Author.Tests.{lt-ltb, le-ltb}
+use Rattle.std.proofs.Common.{ℕ, zero, suc, ◌-◌, ◌/◌, ◌%◌, ◌^◌, ◌≤◌, ◌<◌, ◌≡◌, pow-suc, arith, lt-ltb, le-ltb}
+use Rattle.std.proofs.Math.Nat.{pow-le-pow_right}
+use Rattle.std.proofs.Math.Decide.{dec_le}
+use Rattle.std.proofs.Math.Numerals.{unary_clauses}
 use Rattle.io.specs.Digits.{hex_digit_ascii, last_digits, IsDigitCount}
 use Rattle.paper.specs.Line.{digit_of, decimal_in, decimal_of}
 
@@ -22,6 +19,8 @@ below_power (suc k) = rw (pow-suc 10 k) (omega (arith, below_power k))
 -- The fewest digits that hold a number, one or more, are its decimal.
 fewest_in : (k most n : ℕ) → k < most → n < 10 ^ suc k → (1 ≤ k → 10 ^ k ≤ n) → last_digits 10 (suc k) n ≡ decimal_in most n
 unfolding decimal_in
+fewest_in zero zero n h below above = elim h [ ]
+fewest_in (suc k) zero n h below above = elim h [ ]
 fewest_in zero (suc most) n h below above = rw (lt-ltb n 10 (omega arith), same_digit (n % 10) (omega arith))
 fewest_in (suc k) (suc most) n h below above =
     let low = rw (pow-suc 10 k) at (above (omega arith)) in

@@ -1,12 +1,6 @@
 -- Words put into a text one behind the other. Assumes nothing.
-use Prim.Native.Nat.{ℕ, suc, ◌+◌, ◌*◌, ◌<◌}
-use mathlib.Core.Path.{◌≡◌, refl, sym, subst, ◌∙◌}
-use mathlib.Core.List.{List, [], ◌∷◌, ◌++◌}
-use native.Mathlib.Nat.{mul-suc, add-suc, suc-add, add-zero}
-use native.Mathlib.Numerals.{add-one}
-use native.Mathlib.Omega.{arith}
-use lib.ListN.{length, length-append, get_or, drop, set}
-use lib.Seq.{sets, drop-cons}
+use Rattle.std.proofs.Common.{ℕ, suc, ◌+◌, ◌*◌, ◌<◌, ◌≡◌, refl, sym, subst, ◌∙◌, List, [], ◌∷◌, ◌++◌, mul-suc, add-suc, suc-add, add-zero, add-one, arith, length, length-append, get_or, drop, set, drop-cons}
+use Rattle.std.proofs.lemmas.List.Edits.{sets}
 use Rattle.paper.specs.Bytes.{Bytes}
 use Rattle.paper.specs.Answer.{Due}
 use Rattle.paper.specs.Line.{hex_of}
