@@ -1,12 +1,8 @@
 -- Laws of runs of stores, on which the writers' proofs rest. Assumes nothing.
-use Prim.Native.Nat.{ℕ, zero, suc, ◌+◌, ◌-◌, ◌≤◌, ◌<◌, ◌*◌, ◌/◌, ◌%◌}
-use mathlib.Core.Path.{◌≡◌, refl, sym, ap, ap₂, ◌∙◌}
-use mathlib.Core.List.{[], ◌∷◌, ◌++◌, append-nil, append_assoc}
-use native.Mathlib.Nat.{add-suc, suc-add, add-zero, zero-add}
-use native.Mathlib.Numerals.{add-one, sub-one}
-use native.Mathlib.Omega.{arith}
-use lib.ListN.{length, take, drop, set, replicate, length-drop, drop_of_length-le}
-use lib.Seq.{sets, length-sets, sets-eq, set_comm, take_all, take_at, drop-drop}
+use Rattle.std.proofs.Common.{ℕ, zero, suc, ◌+◌, ◌-◌, ◌≤◌, ◌<◌, ◌*◌, ◌/◌, ◌%◌, ◌≡◌, refl, sym, ap, ap₂, ◌∙◌, [], ◌∷◌, ◌++◌, append-nil, append_assoc, add-suc, suc-add, add-zero, zero-add, add-one, sub-one, arith, length, take, drop, set, replicate, length-drop, drop_of_length-le, take_all, take_at, drop-drop}
+use Rattle.std.proofs.lemmas.List.{set_comm}
+use Rattle.std.proofs.lemmas.List.Edits.{sets, sets-eq}
+use Rattle.std.proofs.Math.Seq.{length-sets}
 use borrow.Rule.Slice.PartMut.{mid_of, post_of, put_mid}
 use Rattle.paper.specs.Bytes.{Bytes, bytes}
 use Rattle.paper.specs.Report.{each}

@@ -1,8 +1,5 @@
 -- How long the rows of a report are. Assumes nothing.
-use Prim.Native.Nat.{ℕ}
-use mathlib.Core.Path.{◌≡◌, refl}
-use mathlib.Core.List.{List}
-use lib.ListN.{length}
+use Rattle.std.proofs.Common.{ℕ, ◌≡◌, refl, List, length}
 use Rattle.paper.specs.Bytes.{bytes, difference}
 use Rattle.paper.specs.Report.{record_of, task_record, path_record}
 use Rattle.report.specs.Figured.{task_row, path_row}

@@ -1,4 +1,6 @@
 // The report: numbers, records and FF into the space that a caller lends.
+#![tactic(auto)]
+
 mod numbers;
 mod records;
 mod whole;

@@ -1,10 +1,5 @@
--- `report::whole::write` meets its contract.
-use borrow.Author.Rules.{rules}
-use Prim.Native.Nat.{◌+◌, ◌*◌, ◌-◌, ◌≤◌}
-use mathlib.Core.Path.{◌≡◌, ap₂, ◌∙◌}
-use mathlib.Core.List.{◌++◌}
-use native.Mathlib.Omega.{arith}
-use lib.ListN.{length, take, replicate, length-append}
+-- `whole::write` writes the whole report, and FF after it.
+use Rattle.std.proofs.Common.{◌≡◌, ◌+◌, ◌*◌, ◌-◌, ◌≤◌, ◌++◌, ap₂, ◌∙◌, length, take, replicate, length-append, arith}
 use borrow.Rule.Slice.PartMut.{mid_of, put_mid, same_len_mid}
 use Rattle.paper.specs.Bytes.{Bytes}
 use Rattle.paper.specs.Report.{head_record, each}
@@ -15,8 +10,7 @@ use Rattle.report.specs.Wrote.{Wrote}
 use Rattle.theory.specs.Report.Length.{each_length, head_length}
 use Rattle.report.proofs.Laws.{rest_more, filled}
 use Rattle.report.proofs.Rows.{task_long, path_long}
-use Rattle.report.proofs.whole.write.Statement.{statement}
-use Rattle.report.proofs.whole.write.Tie as tie
+use Rattle.report.proofs.whole.write.Goals as goal
 
 -- Head, rows of tasks and rows of paths, each written where the last one ended, and FF: the whole report.
 written : (c : Columns) (l l' m n : Bytes) → long_of c ≤ length l → length l' ≡ length l
@@ -44,24 +38,15 @@ written c l l' m n room same head tasks same' paths =
     let front = rest_more 14 head h_long (omega arith) tasks in
     filled (long_of c) (rest_more (14 + 22 * c.tasks) front f_long (omega arith) paths) w_long room
 
-returns : tie.Need-returns
+-- The head, the records of the tasks and those of the paths follow one another, and FF fills what they leave.
+pub returns : goal.returns
 unfolding whole_of
 returns c =
-    let c3 = c.before.before in
-    let c2 = c3.before.before.before.before in
-    let c1 = c2.before.before.before.before.before.before.before.before in
-    let c0 = c1.before.before.before.before.before.before.before.before.before.before in
-    let a = c0.before.before.before.args in
-    let same = c0.head-record.auto.0 in
-    let same' = same_len_mid 14 (length c0.head-record.new.0 - 14) c0.head-record.new.0 c1.task-records.new.0 c1.task-records.auto.0 ∙ same in
-    c3.fill.ensures
-    ∙ written a.t2 a.out.now c0.head-record.new.0 c1.task-records.new.0 c2.path-records.new.0
-    (omega arith) same c0.head-record.ensures c1.task-records.ensures same' c2.path-records.ensures
-
-pub write_spec : {M : Type 1} → statement M
-write_spec =
-    tie.close
-    (tie.spec
-    (search rules) (search rules) (search rules) (search rules) (search rules) (search rules) (search rules)
-    (search rules) (search rules) (search rules) (search rules) (search rules) (search rules) (search rules)
-    (search rules) returns)
+    let head = c.head_record in
+    let tasks = c.task_records in
+    let paths = c.path_records in
+    let same = head.auto.rest in
+    let same' = same_len_mid 14 (length head.new.rest - 14) head.new.rest tasks.new.rest tasks.auto.rest ∙ same in
+    c.fill.ensures
+    ∙ written c.args.c c.args.out.now head.new.rest tasks.new.rest paths.new.rest
+    (omega arith) same head.ensures tasks.ensures same' paths.ensures
