@@ -1,7 +1,7 @@
 /*
  * How late an alarm can be: the proved library, for C. docs/FORMAT.md takes a plan and its report apart, byte by byte.
  *
- * Link target/staticlib/libexports.a, which `rt staticlib exports` writes for x86-64 Linux. Of C's library it needs
+ * Link crates/exports/out/libexports.a, which `rt lib` in crates/exports writes for x86-64 Linux. Of C's library it needs
  * memcpy and memset alone. It allocates nothing and keeps nothing between calls, so that several threads may call it at
  * once; a call takes about 30 KB of stack.
  *

@@ -17,7 +17,7 @@ def crates():
     """What crates.txt lists: each crate and those that it stands over."""
     lines = (line.split("#")[0] for line in (ROOT / "crates.txt").read_text().splitlines())
     rows = (line.split(":") for line in lines if line.strip())
-    return {name.strip(): over.split() for name, over in rows}
+    return {name.split()[0]: over.split() for name, over in rows}
 
 
 def crate_table():

@@ -131,7 +131,7 @@ def prove(name, log):
 def reached(name):
     """The crates of the repository that a program is made of, itself among them."""
     lines = (line.split("#")[0].split(":") for line in LIST.read_text().splitlines())
-    needs = {crate.strip(): rest[0].split() for crate, *rest in lines if rest}
+    needs = {crate.split()[0]: rest[0].split() for crate, *rest in lines if rest}
     found, new = set(), {name}
     while new:
         found |= new
