@@ -1,13 +1,6 @@
 -- The tests on columns that tell a plan's tasks decide refusals 7 to 10.
-use Prim.Native.Nat.{ℕ, zero, suc, ◌+◌, ◌<◌}
-use native.Mathlib.Omega.{arith}
-use mathlib.Core.Path.{◌≡◌, refl, sym, ap, ◌∙◌}
-use mathlib.Core.Logic.{inl, inr}
-use mathlib.Core.List.{List}
-use mathlib.Core.Bool.{true, false≢true, cond, not, ◌&&◌}
-use lib.Dec.{eqb}
-use lib.ListN.{length, get_or}
-use borrow.Author.Tests.{eq-eqb, ne_eqb, eqb-true, lt-ltb, ltb-true, not-true}
+use Rattle.std.proofs.Common.{ℕ, zero, suc, ◌+◌, ◌<◌, arith, ◌≡◌, refl, sym, ap, ◌∙◌, inl, inr, List, true, cond, not, ◌&&◌, eqb, length, get_or, eq-eqb, ne_eqb, eqb-true, lt-ltb, ltb-true}
+use Rattle.std.proofs.lemmas.Bool.{false≢true, not-true}
 use Rattle.paper.specs.Words.{count}
 use Rattle.paper.specs.Limits.{most_sharing}
 use Rattle.paper.specs.Tables.{Source, outside, fed, Plan}

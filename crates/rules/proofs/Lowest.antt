@@ -1,8 +1,5 @@
 -- The lowest number where something is wrong, a number at a time.
-use Prim.Native.Nat.{ℕ, ◌+◌}
-use native.Mathlib.Numerals.{add-one}
-use mathlib.Core.Path.{◌≡◌, sym}
-use mathlib.Core.Bool.{Bool, not}
+use Rattle.std.proofs.Common.{ℕ, ◌+◌, add-one, ◌≡◌, sym, Bool, not}
 use Rattle.paper.specs.Fields.{Judged, ◌and_then◌, unless}
 use Rattle.plan.proofs.Chain.{chain, and_then_passed}
 use Rattle.rules.specs.Faults.{lowest}

@@ -1,12 +1,7 @@
 -- From tests to refusals: the lowest number where a test finds something wrong, and the first of several refusals.
-use Prim.Native.Nat.{ℕ, zero, suc, ◌≤◌, ◌<◌}
-use native.Mathlib.Decide.{dec_lt, ℕ_discrete}
-use native.Mathlib.Omega.{arith}
-use mathlib.Core.Path.{◌≡◌, refl}
-use mathlib.Core.Logic.{inl, inr, ⊎_elim}
-use mathlib.Core.List.{List, [], ◌∷◌}
-use mathlib.Core.Bool.{Bool, true, false, false≢true}
-use borrow.Author.Tests.{not-true, not-false}
+use Rattle.std.proofs.Common.{ℕ, zero, suc, ◌≤◌, ◌<◌, arith, ◌≡◌, refl, inl, inr, ⊎_elim, List, [], ◌∷◌, Bool, true, false}
+use Rattle.std.proofs.Math.Decide.{dec_lt, ℕ_discrete}
+use Rattle.std.proofs.lemmas.Bool.{false≢true, not-true, not-false}
 use Rattle.paper.specs.Fields.{Judged, passed, refused, ◌and_then◌}
 use Rattle.paper.specs.Refusals.{Rule, rule, None, First}
 use Rattle.theory.specs.Plans.Judging.{refused_not_passed, passed_both, then_refused, unless_passed, unless_refused}

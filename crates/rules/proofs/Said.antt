@@ -1,6 +1,5 @@
 -- What is to be said of a plan's bytes: nothing against a well-formed plan alone, and one thing at most.
-use Prim.Native.Nat.{ℕ}
-use mathlib.Core.Path.{◌≡◌, refl}
+use Rattle.std.proofs.Common.{ℕ, ◌≡◌, refl}
 use Rattle.paper.specs.Bytes.{Bytes}
 use Rattle.paper.specs.Fields.{Judged, passed, refused}
 use Rattle.paper.specs.Refusals.{rules, WellFormed}

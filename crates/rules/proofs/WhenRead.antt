@@ -1,8 +1,5 @@
 -- The tables of a plan that reads: what the tests of refusals 7 to 10 may rest on, and what they come to.
-use Prim.Native.Nat.{ℕ, ◌+◌, ◌<◌}
-use native.Mathlib.Omega.{arith}
-use mathlib.Core.Path.{◌≡◌, refl}
-use lib.ListN.{length, get_or}
+use Rattle.std.proofs.Common.{ℕ, ◌+◌, ◌<◌, arith, ◌≡◌, refl, length, get_or}
 use Rattle.paper.specs.Limits.{most_paths}
 use Rattle.paper.specs.Bytes.{Bytes}
 use Rattle.paper.specs.Fields.{Judged, passed, refused, ◌and_then◌, controllers_of, tasks_of, paths_of}

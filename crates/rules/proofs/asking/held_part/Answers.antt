@@ -20,17 +20,21 @@ counted s p path is below = rw is at below
 room : (s : Bytes) (p : Paths) (path : ℕ) → read s ≡ passed → p ≡ path_columns s → path < p.count → path < most_paths
 room s p path reads is below = omega (arith, counted s p path is below, (read_head s reads).paths)
 
+-- The columns have a place for where its part begins,
 pub offset_bounds-paths-path : goal.offset_bounds-paths-path
 offset_bounds-paths-path c =
     omega (arith, room _ _ _ c.requires.reads c.path_columns-paths.ensures c.if-path-paths.true)
 
+-- within their length,
 pub bounds-paths-path : goal.bounds-paths-path
 bounds-paths-path c = room _ _ _ c.requires.reads c.path_columns-paths.ensures c.if-path-paths.true
 
+-- and a place for how many its task numbers are,
 pub offset_bounds-paths-path-then-path-paths : goal.offset_bounds-paths-path-then-path-paths
 offset_bounds-paths-path-then-path-paths c =
     omega (arith, room _ _ _ c.requires.reads c.path_columns-paths.ensures c.if-path-paths.true)
 
+-- within their length too.
 pub bounds-paths-path-then-path-paths : goal.bounds-paths-path-then-path-paths
 bounds-paths-path-then-path-paths c = room _ _ _ c.requires.reads c.path_columns-paths.ensures c.if-path-paths.true
 

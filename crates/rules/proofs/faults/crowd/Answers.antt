@@ -14,7 +14,7 @@ unfolding count sum
 loop-k-preserved c = record {
   within = omega arith;
   few = omega arith;
-  counted = rw (add-one c.loop-k.k, c.loop-k.invariant.counted, c.one_if.ensures.0);
+  counted = rw (add-one c.loop-k.k, c.loop-k.invariant.counted, c.one_if-n.ensures.0);
 }
 
 -- After the loop every task is counted.

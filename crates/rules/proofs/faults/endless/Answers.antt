@@ -5,4 +5,4 @@ use Rattle.rules.proofs.faults.endless.Goals as goal
 -- The task that many steps back is looked at.
 pub returns : goal.returns
 unfolding endless
-returns c = rw c.back_from.ensures.0
+returns c = rw c.back_from-start.ensures.0
