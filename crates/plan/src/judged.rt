@@ -6,7 +6,7 @@ ghost use Rattle.paper.specs.Fields.{◌and_then◌};
 ghost use Rattle.plan.specs.Judged.{said};
 
 // Nothing against it, or a refusal with its number and its place.
-#[derive(Drop)]
+#[derive(Clone, Copy)]
 pub enum Judged {
     Passed,
     Refused { number: u64, place: usize },

@@ -11,7 +11,7 @@ use limits::PATHS;
 
 // How many paths, and path q's values at q: its deadline, where the part of the plan that holds its task numbers begins, and
 // how many they are. All past the count is 0.
-#[derive(Drop)]
+#[derive(Clone, Copy)]
 pub struct Paths {
     pub count: usize,
     pub deadline: [u64; PATHS],

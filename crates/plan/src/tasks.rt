@@ -13,7 +13,7 @@ use stream::{TaskNo, Ticks};
 
 // How many tasks, and task k's values at k: its controller, its priority, C-, C+ and what activates it. What only the other
 // kind of task has is 0, and so is all past the count.
-#[derive(Drop)]
+#[derive(Clone, Copy)]
 pub struct Tasks {
     pub count: usize,
     pub controller: [usize; TASKS],
