@@ -1,5 +1,6 @@
 -- Laws that several functions' proofs cite.
 mod Back
+mod Delays
 mod Fill
 mod Gather
 mod Jitter

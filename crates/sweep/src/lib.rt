@@ -1,4 +1,6 @@
 // The sweeps of document 01: input streams along the chains, one sweep, all sweeps.
+#![tactic(auto)]
+
 mod all;
 mod chains;
 mod once;

@@ -1,0 +1,18 @@
+-- What the loop of `input_of` keeps: k's input jitter is the delay so far and the input jitter of the task that is reached.
+use Rattle.std.proofs.Common.{◌<◌}
+use Rattle.paper.specs.Limits.{most_tasks}
+use Rattle.sweep.proofs.Back.{depth}
+use Rattle.sweep.proofs.Delays.{Met}
+use Rattle.sweep.proofs.chains.input_of.Given as goal
+
+abbrev pub invariant-loop-j : goal.invariant-loop-j
+invariant-loop-j l =
+    record {
+      task : l.k < most_tasks;
+      within : l.j < most_tasks;
+      met : Met l.fed l.feeder l.least l.period l.jitter l.set l.k l.delay l.j;
+    }
+
+-- The steps back that are left.
+abbrev pub decreases-loop-j : goal.decreases-loop-j
+decreases-loop-j l = depth l.fed l.feeder l.j
