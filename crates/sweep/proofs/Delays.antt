@@ -1,5 +1,5 @@
 -- The way back along a chain, from a task to its chain's start: the delay that is met on it.
-use Rattle.std.proofs.Common.{ℕ, ◌+◌, ◌-◌, ◌<◌, ◌^◌, arith, ◌≡◌, refl, sym, ◌∙◌, Bool, true, false, List, get_or}
+use Rattle.std.proofs.Common.{ℕ, ◌+◌, ◌-◌, ◌<◌, ◌^◌, arith, ◌≡◌, sym, ◌∙◌, Bool, true, false, List, get_or}
 use Rattle.paper.specs.Limits.{most_tasks}
 use Rattle.paper.specs.Tables.{Plan}
 use Rattle.paper.specs.Streams.{Stream, delayed}
