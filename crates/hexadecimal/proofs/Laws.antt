@@ -1,11 +1,7 @@
 -- A byte's two digits stored, and then those of the bytes behind it. Assumes nothing.
-use Prim.Native.Nat.{ℕ, ◌+◌, ◌*◌, ◌<◌, ◌/◌, ◌%◌}
-use mathlib.Core.Path.{◌≡◌}
-use mathlib.Core.List.{List}
-use native.Mathlib.Nat.{mul-suc}
-use native.Mathlib.Numerals.{add-one, add-two}
-use lib.ListN.{length, get_or, drop, set}
-use lib.Seq.{sets, drop-cons}
+use Rattle.std.proofs.Common.{ℕ, ◌+◌, ◌*◌, ◌<◌, ◌/◌, ◌%◌, ◌≡◌, List, mul-suc, add-one, length, get_or, drop, set, drop-cons}
+use Rattle.std.proofs.Math.Numerals.{add-two}
+use Rattle.std.proofs.lemmas.List.Edits.{sets}
 use Rattle.paper.specs.Line.{digit_of, hex_of}
 
 -- Storing the digits of byte i, and then those of the bytes behind it, is storing those of the bytes from i on.

@@ -1,5 +1,6 @@
 // Bytes in capital hexadecimal, two digits a byte and nothing between.
 #![tactic(auto)]
+
 ghost use Rattle.std.specs.Prelude.{◌≡◌, ◌*◌, ◌≤◌, ◌<◌, length};
 ghost use Rattle.std.proofs.lemmas.List.Edits.{sets};
 ghost use Rattle.paper.specs.Line.{digit_of, hex_of};
