@@ -15,7 +15,7 @@ use stream::TaskNo;
 
 // How the sweeps end: sweep number `sweep` is the first that changes nothing, or the first in which a task leaves the limits, of
 // which `task` is the lowest.
-#[derive(Drop)]
+#[derive(Clone, Copy)]
 pub enum Ended {
     Settled { sweep: u64 },
     Left { task: TaskNo, sweep: u64 },
