@@ -45,13 +45,13 @@ module _ {fed : List Bool} {feeder least period jitter set : List ℕ} {k delay 
         e ∙ λ i. record { P = (jittered.period_is k h ∙ sym (period_law so.sound (bounds_of set) k h)) i; J = met_last i }
 
   module _ (some : (p : Plan) × Chained p fed feeder × Jittered p least period jitter × (k < p.tasks)) where
-    -- Task j is a task,
-    pub met_counted : j < most_tasks
-    met_counted =
+    -- The feeder of task j, if it has one, is a task,
+    pub feeder_counted : get_or fed j false ≡ true → get_or feeder j 0 < most_tasks
+    feeder_counted t =
         let (p, so, jittered, h) = some in
-        omega (arith, (met.of p so jittered h).0, so.ranged.tasks)
+        omega (arith, fed_counted so j (met.of p so jittered h).0 t, so.ranged.tasks)
 
-    -- its feeder is nearer to the chain's start,
+    -- which is nearer to the chain's start,
     pub met_nearer : get_or fed j false ≡ true → depth fed feeder (get_or feeder j 0) < depth fed feeder j
     met_nearer t =
         let (p, so, jittered, h) = some in

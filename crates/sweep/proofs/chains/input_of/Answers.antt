@@ -1,24 +1,21 @@
 -- `input_of` gives a task's input stream: that of its chain's start, delayed by what is met on the way back.
-use Rattle.std.proofs.Common.{refl, arith}
+use Rattle.std.proofs.Common.{arith}
 use Rattle.sweep.specs.Columns.{bounds_of}
-use Rattle.sweep.proofs.Delays.{met_next, met_last, met_stream, met_counted, met_nearer, met_small}
+use Rattle.sweep.proofs.Back.{fed_counted}
+use Rattle.sweep.proofs.Delays.{met_next, met_last, met_stream, feeder_counted, met_nearer, met_small}
 use Rattle.sweep.proofs.Jitter.{jitter_small}
 use Rattle.sweep.proofs.chains.input_of.Goals as goal
 
--- The feeder whose R+ and R- are read is a task.
-pub offset_bounds-set-j : goal.offset_bounds-set-j
-offset_bounds-set-j c =
-    omega (arith, met_counted (met_next c.loop-j.invariant.met c.loop-j-test.true refl) c.requires.chained)
-
-pub bounds-set-j : goal.bounds-set-j
-bounds-set-j c = met_counted (met_next c.loop-j.invariant.met c.loop-j-test.true refl) c.requires.chained
-
-pub offset_bounds-least-j : goal.offset_bounds-least-j
-offset_bounds-least-j c =
-    omega (arith, met_counted (met_next c.loop-j.invariant.met c.loop-j-test.true refl) c.requires.chained)
-
-pub bounds-least-j : goal.bounds-least-j
-bounds-least-j c = met_counted (met_next c.loop-j.invariant.met c.loop-j-test.true refl) c.requires.chained
+-- At first the task is the one that is asked about, and there is no delay.
+pub loop-j-init : goal.loop-j-init
+loop-j-init c =
+    let (p, so, jittered, h) = c.requires.chained in
+    record {
+      task = omega (arith, so.ranged.tasks);
+      within = omega (arith, so.ranged.tasks);
+      feeder = λ t. omega (arith, fed_counted so c.args.task.0 h t, so.ranged.tasks);
+      met = record { of = λ p so jittered h. (h, omega arith) };
+    }
 
 -- The delay fits.
 pub overflow_add-delay : goal.overflow_add-delay
@@ -36,7 +33,8 @@ loop-j-preserved c =
     let met = met_next c.loop-j.invariant.met c.loop-j-test.true c.minus-delay.ensures in
     record {
       task = c.loop-j.invariant.task;
-      within = met_counted met c.requires.chained;
+      within = c.loop-j.invariant.feeder c.loop-j-test.true;
+      feeder = feeder_counted met c.requires.chained;
       met = met;
     }
 

@@ -1,5 +1,6 @@
--- What the loop of `input_of` keeps: k's input jitter is the delay so far and the input jitter of the task that is reached.
-use Rattle.std.proofs.Common.{◌<◌}
+-- What the loop of `input_of` keeps: k's input jitter is the delay so far and the input jitter of the task that is reached, whose
+-- feeder, if it has one, is a task.
+use Rattle.std.proofs.Common.{◌<◌, ◌≡◌, true, false, get_or}
 use Rattle.paper.specs.Limits.{most_tasks}
 use Rattle.sweep.proofs.Back.{depth}
 use Rattle.sweep.proofs.Delays.{Met}
@@ -10,6 +11,7 @@ invariant-loop-j l =
     record {
       task : l.k < most_tasks;
       within : l.j < most_tasks;
+      feeder : get_or l.fed l.j false ≡ true → get_or l.feeder l.j 0 < most_tasks;
       met : Met l.fed l.feeder l.least l.period l.jitter l.set l.k l.delay l.j;
     }
 
