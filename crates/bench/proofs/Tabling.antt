@@ -1,13 +1,7 @@
 -- What the tables of a well-formed plan satisfy, and what its settled figures do.
-use Prim.Native.Nat.{ℕ, ◌+◌, ◌*◌, ◌≤◌, ◌<◌}
-use mathlib.Core.Path.{◌≡◌, refl, ap, subst, sym}
-use mathlib.Core.Bool.{Bool, true, false, cond}
-use mathlib.Core.List.{List}
-use native.Mathlib.Decide.{dec_lt}
-use native.Mathlib.Omega.{arith}
-use lib.Dec.{ltb}
-use lib.ListN.{get_or, get_or-eq_default}
-use borrow.Author.Tests.{ltb-true}
+use Rattle.std.proofs.Common.{ℕ, ◌+◌, ◌*◌, ◌≤◌, ◌<◌, ◌≡◌, refl, ap, subst, sym, Bool, true, false, cond, List, arith, ltb, get_or, ltb-true}
+use Rattle.std.proofs.Math.Decide.{dec_lt}
+use Rattle.std.proofs.Math.ListN.{get_or-eq_default}
 use Rattle.paper.specs.Words.{count}
 use Rattle.paper.specs.Limits.{most_tasks, most_paths, most_sharing, most_ticks}
 use Rattle.paper.specs.Bytes.{Bytes}

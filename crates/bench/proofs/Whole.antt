@@ -1,8 +1,5 @@
 -- The report of columns that hold a plan's figures is the plan's report.
-use Prim.Native.Nat.{ℕ, ◌<◌}
-use mathlib.Core.Path.{◌≡◌}
-use native.Mathlib.Omega.{arith}
-use lib.ListN.{get_or}
+use Rattle.std.proofs.Common.{ℕ, ◌<◌, ◌≡◌, arith, get_or}
 use Rattle.paper.specs.Limits.{most_tasks, most_paths}
 use Rattle.paper.specs.Tables.{Plan}
 use Rattle.paper.specs.Streams.{delayed}

@@ -1,4 +1,6 @@
 // The entry: plan bytes and report space to the answer.
+#![tactic(auto)]
+
 mod along;
 mod answers;
 mod entry;

@@ -1,8 +1,5 @@
 -- Where a path's task numbers lie.
-use Prim.Native.Nat.{ℕ, ◌<◌}
-use mathlib.Core.Path.{refl}
-use native.Mathlib.Omega.{arith}
-use lib.ListN.{get_or}
+use Rattle.std.proofs.Common.{ℕ, ◌<◌, refl, arith, get_or}
 use Rattle.paper.specs.Bytes.{Bytes}
 use Rattle.paper.specs.Fields.{paths_of}
 use Rattle.paper.specs.Tables.{plan_of}
