@@ -1,5 +1,5 @@
 -- `output_jitters` gives the jitter of every task's output stream.
-use Rattle.std.proofs.Common.{◌<◌, ◌≡◌, ap, arith}
+use Rattle.std.proofs.Common.{◌<◌, ap, arith}
 use Rattle.paper.specs.Limits.{most_tasks}
 use Rattle.paper.specs.Streams.{Stream, delayed}
 use Rattle.plan.proofs.Columns.{filled_none, filled_more}
