@@ -5,7 +5,7 @@ ghost use Rattle.bench.specs.Answers.{said, numbered};
 use stream::{ControllerNo, TaskNo};
 
 // What is answered to a plan.
-#[derive(Drop)]
+#[derive(Clone, Copy)]
 pub enum Answer {
     // 0: accepted; how long the report is, and the first sweep that changed nothing.
     Accepted { length: usize, sweep: u64 },
@@ -20,7 +20,7 @@ pub enum Answer {
 }
 
 // The three numbers of an answer.
-#[derive(Drop)]
+#[derive(Clone, Copy)]
 pub struct Numbers {
     pub number: u64,
     pub place: u64,

@@ -14,21 +14,21 @@ use limits::{JOBS, SHARING};
 use stream::{EventModel, Events, Ticks};
 
 // How far the look has come: the jobs looked at, and the largest B(q) - d(q) among them.
-#[derive(Drop)]
+#[derive(Clone, Copy)]
 pub struct Look {
     pub jobs: Events,
     pub largest: Ticks,
 }
 
 // What the look comes to: all the jobs to look at have been looked at, or the task leaves the limits.
-#[derive(Drop)]
+#[derive(Clone, Copy)]
 pub enum Looked {
     All(Look),
     Outside,
 }
 
 // What the look at one job more leads to: the look goes on, or it is over.
-#[derive(Drop)]
+#[derive(Clone, Copy)]
 enum Step {
     On(Look),
     Over(Looked),

@@ -9,7 +9,7 @@ use limits::TICKS;
 use stream::{Events, Ticks};
 
 // What the working out of a task's bound comes to: R+ and the jobs looked at, all within limits, or the task leaves the limits.
-#[derive(Drop)]
+#[derive(Clone, Copy)]
 pub enum Worked {
     Within(Ticks, Events),
     Outside,

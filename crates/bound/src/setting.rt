@@ -11,7 +11,7 @@ pub struct Own {
 }
 
 // Its rivals, `count` of them: the period and the jitter of each one's input stream, and its C+, a column each.
-#[derive(Drop)]
+#[derive(Clone, Copy)]
 pub struct Rivals {
     pub count: usize,
     pub period: [u64; SHARING],

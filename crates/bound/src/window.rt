@@ -10,7 +10,7 @@ use limits::{SHARING, TICKS};
 use stream::Ticks;
 
 // What the search for a window finds: the window, or that there is none within limits.
-#[derive(Drop)]
+#[derive(Clone, Copy)]
 pub enum Found {
     At(Ticks),
     Beyond,

@@ -5,7 +5,7 @@ use std::io;
 use std::io::Read;
 
 // What came: so many bytes, at the front of the space, and why a read failed, if one did.
-#[derive(Drop)]
+#[derive(Clone, Copy)]
 pub struct Input {
     pub bytes: usize,
     pub failed: Option<io::Error>,

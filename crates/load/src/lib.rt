@@ -15,7 +15,7 @@ use limits::TASKS;
 use stream::{ControllerNo, Ticks};
 
 // The lowest controller whose load is above one, if there is any.
-#[derive(Drop)]
+#[derive(Clone, Copy)]
 pub enum Overload {
     At(ControllerNo),
     Nowhere,

@@ -12,7 +12,7 @@ use limits::{PATHS, TASKS};
 use stream::{Events, TaskNo, Ticks};
 
 // The columns that a report is written from: what stands at k belongs to task k, or to path k.
-#[derive(Drop)]
+#[derive(Clone, Copy)]
 pub struct Columns {
     pub sweeps: u64,
     pub tasks: usize,

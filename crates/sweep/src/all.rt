@@ -23,7 +23,7 @@ pub enum Ended {
 
 // What the sweeps come to: how they end and, where they settle, each task's R+, the jitter of its input stream and the jobs looked
 // at. All else is 0.
-#[derive(Drop)]
+#[derive(Clone, Copy)]
 pub struct Outcome {
     pub ended: Ended,
     pub bound: [u64; TASKS],

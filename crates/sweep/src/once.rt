@@ -13,7 +13,7 @@ use stream::{EventModel, TaskNo, Ticks};
 
 // What a sweep has worked out: the bounds of the tasks before its end and the jobs looked at, and 0 past them. Its end is the lowest
 // task that leaves the limits, or the number behind the last task's where none does.
-#[derive(Drop)]
+#[derive(Clone, Copy)]
 pub(crate) struct Swept {
     pub end: TaskNo,
     pub bound: [u64; TASKS],
