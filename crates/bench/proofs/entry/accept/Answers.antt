@@ -1,9 +1,23 @@
 -- `accept` writes the report of an accepted plan.
-use Rattle.std.proofs.Common.{◌∙◌, arith}
-use Rattle.paper.specs.Answer.{accepted}
+use Rattle.std.proofs.Common.{ℕ, ◌-◌, ◌≡◌, ◌++◌, ◌∙◌, arith}
+use Rattle.paper.specs.Bytes.{Bytes}
+use Rattle.paper.specs.Tables.{plan_of}
+use Rattle.paper.specs.Report.{Figures, report, report_length}
+use Rattle.paper.specs.Answer.{Reported, Due, blank, accepted}
+use Rattle.plan.specs.declared.tasks.Tasks.{Tasks}
+use Rattle.plan.specs.declared.paths.Paths.{Paths}
+use Rattle.bench.specs.Tabled.{Weighed}
 use Rattle.bench.proofs.Tabling.{sound, ranged, few, long}
 use Rattle.bench.proofs.Whole.{whole, whole_long}
 use Rattle.bench.proofs.entry.accept.Goals as goal
+
+-- Accepting a plan is due under the number of the sweep in which its figures settled.
+accepted_in : {s : Bytes} {room sweep : ℕ} {t : Tasks} {paths : Paths} {f : Figures} → Weighed s room t paths
+    → Reported (plan_of s) f → sweep ≡ f.sweeps
+    → Due s room
+    (record { number = 0; place = report_length (plan_of s); sweep = sweep })
+    (report (plan_of s) f ++ blank (room - report_length (plan_of s)))
+accepted_in weighed reported is = rw is (accepted weighed.tabled.well weighed.enough weighed.light reported)
 
 -- The counts are within limits,
 pub report_bytes-length-requires : goal.report_bytes-length-requires
@@ -27,5 +41,5 @@ returns c =
     let is = c.report_bytes-length.ensures ∙ long weighed.tabled in
     let sound' = sound weighed.tabled in
     let ranged' = ranged weighed.tabled in
-    rw (is, settled.sweep, c.write.ensures, whole sound' ranged' h, whole_long sound' ranged' h)
-    (record { cased = tt; due = accepted weighed.tabled.well weighed.enough weighed.light settled.reported })
+    rw (is, c.write.ensures, whole sound' ranged' h, whole_long sound' ranged' h)
+    (record { cased = tt; due = accepted_in weighed settled.reported settled.sweep })

@@ -1,5 +1,5 @@
 -- `columns_of` gives the columns that the report of an accepted plan is written from.
-use Rattle.std.proofs.Common.{ℕ, sym, subst}
+use Rattle.std.proofs.Common.{ℕ, sym, subst, arith}
 use Rattle.paper.specs.Bytes.{Bytes}
 use Rattle.paper.specs.Tables.{plan_of}
 use Rattle.plan.specs.declared.tasks.Tasks.{Tasks}
@@ -23,7 +23,10 @@ inputs_in h = subst Capped (sym h.1.inputs) (inputs_capped h.1.reported)
 
 -- So the output jitters fit,
 pub output_jitters-output-requires : goal.output_jitters-output-requires
-output_jitters-output-requires c = ((few c.requires.0).0, bounds_in c.requires, inputs_in c.requires)
+output_jitters-output-requires c =
+    let bounds = bounds_in c.requires in
+    let inputs = inputs_in c.requires in
+    ((few c.requires.0).0, λ k. omega (arith, bounds k, inputs k), λ k. omega (arith, bounds k, inputs k))
 
 -- and so do the sums of R- along the paths
 pub path_sums-best-requires : goal.path_sums-best-requires
