@@ -1,4 +1,6 @@
 // What C and Rust call: the answer to a plan, the question about a path, and how much room is enough.
+#![tactic(auto)]
+
 mod entries;
 mod parts;
 
