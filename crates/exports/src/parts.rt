@@ -6,7 +6,7 @@ use plan::{Judged, path_columns};
 use rules::judge;
 
 // Where a part of the plan begins, and how many bytes it has.
-#[derive(Drop)]
+#[derive(Clone, Copy)]
 pub(crate) struct Part {
     pub(crate) from: usize,
     pub(crate) count: usize,
