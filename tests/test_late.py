@@ -270,7 +270,7 @@ class Stale(unittest.TestCase):
         self.assertRegex(error, r"\Alate: proving and building it first, 14 crates: some minutes\nlate: \d+ s\n\Z")
         self.assertEqual(self.late(), (0, LINE_J, ""))
         main = self.copy / "crates/late/src/main.rt"
-        main.write_text(main.read_text().replace("let n = input.bytes;", "let n = ENOUGH + input.bytes;"))
+        main.write_text(main.read_text().replace("&plan[..bytes]", "&plan[..ENOUGH + bytes]"))
         status, output, error = self.late()
         self.assertEqual((status, output), (2, ""))
         log = re.search(r"\nlate: not proved: .*; the whole log is (.*)\n\Z", error)[1]

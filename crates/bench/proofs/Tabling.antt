@@ -1,141 +1,130 @@
--- What the tables of a well-formed plan satisfy, and what its settled figures do.
-use Rattle.std.proofs.Common.{ℕ, ◌+◌, ◌*◌, ◌≤◌, ◌<◌, ◌≡◌, refl, ap, subst, sym, Bool, true, false, cond, List, arith, ltb, get_or, ltb-true}
-use Rattle.std.proofs.Math.Decide.{dec_lt}
-use Rattle.std.proofs.Math.ListN.{get_or-eq_default}
+-- What the rows of a well-formed plan satisfy.
+use Rattle.std.proofs.Common.{ℕ, ◌+◌, ◌*◌, ◌≤◌, ◌<◌, ◌≡◌, refl, ap, sym, ◌∙◌, List, arith, length, get_or}
 use Rattle.paper.specs.Words.{count}
-use Rattle.paper.specs.Limits.{most_tasks, most_paths, most_sharing, most_ticks}
+use Rattle.paper.specs.Limits.{most_tasks, most_paths, most_sharing}
 use Rattle.paper.specs.Bytes.{Bytes}
-use Rattle.paper.specs.Tables.{Plan, plan_of}
-use Rattle.paper.specs.Refusals.{rules}
-use Rattle.paper.specs.Sets.{inputs}
-use Rattle.paper.specs.Load
+use Rattle.paper.specs.Fields.{controllers_of}
+use Rattle.paper.specs.Tables.{plan_of}
+use Rattle.paper.specs.Refusals.{rules, WellFormed}
 use Rattle.paper.specs.Report.{Figures, report_length}
-use Rattle.paper.specs.Answer.{Reported}
-use Rattle.theory.specs.Task.Preemptive.{bounded_most}
 use Rattle.theory.specs.Plans.Sound.{Sound, Ranged}
 use Rattle.theory.specs.Plans.Inputs.{period_most}
 use Rattle.theory.specs.Plans.WellFormed.{well_formed→sound, well_formed→ranged}
-use Rattle.theory.specs.Sweeps.Climbs.{proper}
-use Rattle.plan.specs.Tables.{column, task_columns, path_columns, Told}
-use Rattle.plan.specs.declared.tasks.Tasks.{Tasks}
-use Rattle.plan.specs.declared.paths.Paths.{Paths}
-use Rattle.plan.proofs.Columns.{length_column, get_d_column, column_at}
-use Rattle.plan.proofs.Telling.{told}
-use Rattle.load.specs.Columns.{on_in, Columns}
-use Rattle.load.specs.Columns.{Ranged as Load-Ranged}
-use Rattle.load.proofs.Columns.{uncrowded}
-use Rattle.sweep.specs.Columns.{per_task}
-use Rattle.sweep.specs.Planned.{Planned, Prepared}
-use Rattle.bench.specs.Sums.{Capped}
-use Rattle.bench.specs.Tabled.{Tabled}
+use Rattle.stream.specs.declared.kinds.Ticks.{Ticks}
+use Rattle.plan.specs.Tables.{tabulate, path_rows}
+use Rattle.plan.specs.declared.tasks.Task.{Task}
+use Rattle.plan.specs.declared.paths.Path.{Path}
+use Rattle.plan.proofs.Rows.{length_tabulate, tabulate_at}
+use Rattle.load.specs.Shares.{no_share, on_in, Shares}
+use Rattle.load.specs.Shares as Load
+use Rattle.load.specs.declared.Share.{Share}
+use Rattle.load.proofs.Shares.{uncrowded}
+use Rattle.sweep.specs.Rows.{per_task, period_of}
+use Rattle.sweep.specs.Planned.{Planned}
+use Rattle.sweep.specs.Ends.{Settled}
+use Rattle.sweep.specs.declared.once.Figure.{Figure}
+use Rattle.sweep.proofs.Rows.{counted}
+use Rattle.report.specs.Figured.{long_of}
+use Rattle.report.specs.declared.figures.TaskFigures.{TaskFigures}
+use Rattle.report.specs.declared.figures.PathFigures.{PathFigures}
+use Rattle.bench.specs.Rows.{task_figures, path_figures}
+use Rattle.bench.specs.Rows.{share_row}
+use Rattle.bench.specs.Tabled.{Tabled, Timed, Settling, Pathed}
+use Rattle.bench.proofs.Whole.{whole_long}
 
--- Where every number of a column is within limits, the column is.
-pub column_capped : (size n : ℕ) (f : ℕ → ℕ) → ((k : ℕ) → k < n → f k ≤ most_ticks) → Capped (column size 0 n f)
-column_capped size n f h k =
-    elim (dec_lt k size) [
-      | yes l ↦ rw (get_d_column size 0 f n k 0 l) (pick (ltb k n) (λ e. h k (ltb-true k n e)))
-      | no l ↦ rw (get_or-eq_default (column size 0 n f) 0 {n = k} (rw (length_column size 0 f n) (omega arith))) (omega arith)
-    ]
-  where
-    pick : (b : Bool) → (b ≡ true → f k ≤ most_ticks) → cond b (f k) 0 ≤ most_ticks
-    pick true g = g refl
-    pick false g = omega arith
-
--- The bounds and the input jitters of settled figures are within limits.
-pub bounds_capped : {p : Plan} {f : Figures} → Sound p → Reported p f → Capped (column most_tasks 0 p.tasks f.R)
-bounds_capped {p} {f} sound r =
-    column_capped most_tasks p.tasks f.R (λ k l. bounded_most (proper p sound (inputs p f.R) k l) (r.bounded k l))
-
--- So are the input jitters.
-pub inputs_capped : {p : Plan} {f : Figures} → Reported p f
-    → Capped (column most_tasks 0 p.tasks (λ k. (inputs p f.R k).J))
-inputs_capped {p} {f} r = column_capped most_tasks p.tasks _ (λ k l. (r.bounded k l).within.input)
-
-module _ {s : Bytes} {t : Tasks} {paths : Paths} (tabled : Tabled s t paths) where
+module _ {s : Bytes} (well : WellFormed s) where
   -- The plan is sound,
-  pub sound : Sound (plan_of s)
-  sound = well_formed→sound s tabled.well
+  sound : Sound (plan_of s)
+  sound = well_formed→sound s well
 
-  -- and fits the machine;
-  pub ranged : Ranged (plan_of s)
-  ranged = well_formed→ranged s tabled.well
+  -- and fits the machine.
+  ranged : Ranged (plan_of s)
+  ranged = well_formed→ranged s well
 
-  -- so its columns are those of such a plan.
-  pub planned : Planned (plan_of s) t
-  planned = record { sound = sound; ranged = ranged; columns = tabled.tasks }
+  -- The report of a plan's figures has room where the plan's has.
+  pub report_room : (f : Figures) {room : ℕ} {tasks : List TaskFigures} {paths : List PathFigures}
+      → report_length (plan_of s) ≤ room → tasks ≡ tabulate (plan_of s).tasks (task_figures (plan_of s) f)
+      → paths ≡ tabulate (plan_of s).paths (path_figures (plan_of s) f)
+      → (length tasks ≤ most_tasks) × (length paths ≤ most_paths) × (long_of tasks paths ≤ room)
+  report_room f enough tasks paths =
+      rw (tasks, paths)
+      (omega (
+        arith,
+        ranged.tasks,
+        ranged.paths,
+        length_tabulate (plan_of s).tasks (task_figures (plan_of s) f),
+        length_tabulate (plan_of s).paths (path_figures (plan_of s) f),
+        whole_long (plan_of s) f,
+      ))
 
-  -- The counts are the plan's.
-  pub tasks_are : t.count ≡ (plan_of s).tasks
-  unfolding task_columns
-  tasks_are = ap (λ (t : Tasks). t.count) tabled.tasks
+  module _ {shares : List Share} {controllers : ℕ} (rows : shares ≡ per_task (plan_of s) (share_row (plan_of s)))
+      (heads : controllers ≡ controllers_of s) where
+    -- There is a share for each task,
+    shares_are : length shares ≡ (plan_of s).tasks
+    shares_are = ap length rows ∙ length_tabulate _ _
 
-  -- The paths' count too.
-  pub paths_are : paths.count ≡ (plan_of s).paths
-  unfolding path_columns plan_of
-  paths_are = ap (λ (p : Paths). p.count) tabled.parts
+    -- its own.
+    share_is : (k : ℕ) → k < length shares → get_or shares k no_share ≡ share_row (plan_of s) k
+    share_is k h = ap (λ xs. get_or xs k no_share) rows ∙ tabulate_at _ _ k no_share (omega (arith, shares_are))
 
-  -- There are no more than the columns have places.
-  pub few : (t.count ≤ most_tasks) × (paths.count ≤ most_paths)
-  few = omega (arith, tasks_are, paths_are, ranged.tasks, ranged.paths)
-
-  -- The report is as long as the counts say.
-  pub long : 14 + 22 * t.count + 29 * paths.count ≡ report_length (plan_of s)
-  unfolding report_length
-  long = rw (tasks_are, paths_are)
-
-  -- The least costs are the plan's,
-  pub least_is : t.least ≡ column most_tasks 0 (plan_of s).tasks (λ k. ((plan_of s).task k).C-)
-  unfolding task_columns
-  least_is = ap (λ (t : Tasks). t.least) tabled.tasks
-
-  -- and within limits.
-  pub least_capped : Capped t.least
-  least_capped =
-      rw least_is (column_capped most_tasks (plan_of s).tasks _ (λ k l. omega (arith, sound.costs k l, ranged.cost k l)))
-
-  -- The deadlines are the plan's.
-  pub deadline_is : paths.deadline ≡ column most_paths 0 (plan_of s).paths (plan_of s).deadline
-  unfolding path_columns plan_of
-  deadline_is = ap (λ (p : Paths). p.deadline) tabled.parts
-
-  -- The columns tell the plan's tasks.
-  tells : Told (plan_of s) t
-  tells = subst (Told (plan_of s)) (sym tabled.tasks) (told (plan_of s) ranged.tasks)
-
-  module _ {period : List ℕ} (periods : period ≡ per_task (plan_of s) (Load.period (plan_of s))) where
-    -- The columns are ready for the sweeps.
-    pub prepared : Prepared (plan_of s) t period
-    prepared = record { planned = planned; periods = periods }
-
-    -- What the column of periods holds at a task.
-    period_at : (k : ℕ) → k < t.count → get_or period k 0 ≡ Load.period (plan_of s) k
-    period_at k l =
-        rw periods
-        (column_at most_tasks 0 (Load.period (plan_of s)) (plan_of s).tasks k 0 (omega (arith, few)) (omega (arith, tasks_are)))
-
-    -- The columns that loads depend on are the plan's,
-    pub loads : Columns (plan_of s) (plan_of s).controllers t.count t.controller t.most period
-    loads =
+    -- So the shares are the plan's,
+    pub shared : Shares (plan_of s) controllers shares
+    unfolding plan_of
+    shared =
         record {
-          controllers_are = refl;
-          tasks_are = sym tasks_are;
-          controller_of = λ k l. tells.controller k (omega (arith, tasks_are));
-          cost_of = λ k l. tells.most k (omega (arith, tasks_are));
-          period_is = period_at;
+          controllers_are = sym heads;
+          tasks_are = sym shares_are;
+          controller_of = λ k h. ap (λ (t : Share). t.controller.0) (share_is k h);
+          cost_of = λ k h. ap (λ (t : Share). t.cost.0) (share_is k h);
+          period_is = λ k h. ap (λ (t : Share). t.period.0) (share_is k h);
         }
 
     -- in range,
-    pub loads_ranged : Load-Ranged t.count t.most period
-    loads_ranged =
+    pub shares_ranged : Load.Ranged shares
+    shares_ranged =
         record {
-          few = few.0;
-          costs = λ k l.
-              let h : k < (plan_of s).tasks = omega (arith, tasks_are) in
-              rw (tells.most k h) (ranged.cost k h);
-          ticks = λ k l. rw (period_at k l) (period_most sound ranged k (omega (arith, tasks_are)));
+          few = omega (arith, shares_are, ranged.tasks);
+          costs = λ k h.
+              omega (arith, shared.cost_of k h, ranged.cost k (omega (arith, shares_are)));
+          ticks = λ k h.
+              omega (arith, shared.period_is k h, period_most sound ranged k (omega (arith, shares_are)));
         }
 
     -- and no controller has too many tasks.
-    pub loads_few : (c : ℕ) → c < (plan_of s).controllers → count t.count (on_in t.controller c) ≤ most_sharing
+    pub shares_few : (c : ℕ) → c < controllers → count (length shares) (on_in shares c) ≤ most_sharing
     unfolding rules
-    loads_few = uncrowded loads tabled.well.sound.1.1.1.0
+    shares_few = uncrowded shared well.sound.1.1.1.0
+
+module _ {s : Bytes} {tasks : List Task} {paths : List Path} (so : Tabled s tasks paths) where
+  -- The rows are those of a sound plan that fits the machine.
+  pub planned : Planned (plan_of s) tasks
+  planned = record { sound = sound so.well; ranged = ranged so.well; rows = so.rows }
+
+  -- There is a row for each path.
+  paths_are : length paths ≡ (plan_of s).paths
+  unfolding path_rows plan_of
+  paths_are = ap length so.parts ∙ length_tabulate _ _ ∙ omega (arith, (ranged so.well).paths)
+
+  -- There are as many rows as limits allow, at most,
+  pub few : (length tasks ≤ most_tasks) × (length paths ≤ most_paths)
+  few = omega (arith, counted planned, paths_are, (ranged so.well).tasks, (ranged so.well).paths)
+
+  -- and the report is as long as they say.
+  pub long : 14 + 22 * length tasks + 29 * length paths ≡ report_length (plan_of s)
+  unfolding report_length
+  long = rw (counted planned, paths_are) refl
+
+  -- Beside the rows of the tasks stand the periods,
+  pub timed : {periods rows : List Ticks} → rows ≡ periods → periods ≡ per_task (plan_of s) (period_of (plan_of s))
+      → Timed (plan_of s) tasks rows
+  timed same periods = record { planned = planned; rows = same ∙ periods }
+
+  -- and the figures in which the sweeps settled,
+  pub settling : {sweep : ℕ} {figures rows : List Figure} → (settled : Settled (plan_of s) sweep figures) → rows ≡ figures
+      → Settling (plan_of s) settled.figures tasks rows
+  settling settled same = record { planned = planned; reported = settled.reported; rows = same ∙ settled.rows }
+
+  -- and beside those of the paths the tasks' figures in the report.
+  pub pathed : {sweep : ℕ} {figures : List Figure} {rows : List TaskFigures} → (settled : Settled (plan_of s) sweep figures)
+      → rows ≡ per_task (plan_of s) (task_figures (plan_of s) settled.figures) → Pathed s settled.figures paths rows
+  pathed settled rows = record { well = so.well; parts = so.parts; reported = settled.reported; rows = rows }

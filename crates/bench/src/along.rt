@@ -1,29 +1,28 @@
 // "Best and worst are the sums of R- and R+ along the path."
-ghost use Rattle.std.specs.Prelude.{◌≡◌, get_or};
+ghost use Rattle.std.specs.Prelude.{◌≡◌};
 ghost use Rattle.paper.specs.Report.{along};
-ghost use Rattle.bench.specs.Sums.{Summable};
+ghost use Rattle.bench.specs.Sums.{Summable, least_in, bound_in};
 
-use limits::TASKS;
-use stream::{TaskNo, Ticks};
+use report::{PathFigures, TaskFigures};
+use stream::Ticks;
 
-// A byte of a path's part, which is the number of a task.
-fn task_of(byte: u8) -> TaskNo
-    ensures { result.0 ≡ byte }
+// The figures of a path with a deadline, along the task numbers that a part of the plan holds.
+pub(crate) fn figures_along(deadline: Ticks, part: &[u8], tasks: &[TaskFigures]) -> PathFigures
+    requires { Summable part.now tasks.now }
+    ensures deadline { result.deadline ≡ deadline }
+    ensures best { result.best.0 ≡ along part.now (least_in tasks.now) }
+    ensures worst { result.worst.0 ≡ along part.now (bound_in tasks.now) }
 {
-    TaskNo(byte as usize)
-}
-
-// The sum of a column of ticks over the task numbers that a part of the plan holds.
-pub(crate) fn sum_along(part: &[u8], column: &[u64; TASKS]) -> Ticks
-    requires { Summable part.now column.now }
-    ensures { result.0 ≡ along part.now (λ k. get_or column.now k 0) }
-{
-    let mut sum: u64 = 0;
-    let mut i = 0;
-    while i < part.len() {
-        let k = task_of(part[i]).0;
-        sum += column[k];
-        i += 1;
+    let mut best: u64 = 0;
+    let mut worst: u64 = 0;
+    for byte in part {
+        let task = &tasks[usize::from(*byte)];
+        best += task.least.0;
+        worst += task.bound.0;
     }
-    Ticks(sum)
+    PathFigures {
+        deadline,
+        best: Ticks(best),
+        worst: Ticks(worst),
+    }
 }

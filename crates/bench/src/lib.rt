@@ -5,7 +5,6 @@ mod along;
 mod answers;
 mod entry;
 mod figures;
-mod refusing;
 
-pub use answers::{Answer, Numbers, numbers_of};
+pub use answers::{Accepted, Answer, Numbers, Refusal};
 pub use entry::answer;

@@ -1,42 +1,40 @@
 -- The interference of a task's rivals: it grows with the span, and it is small, so that every sum and product on the way to
 -- it fits.
-use Prim.Native.Nat.{ℕ, ◌*◌, ◌≤◌, ◌<◌, ◌^◌}
-use native.Mathlib.Nat.{le_refl, mul-le-mul, mul-le-mul_right}
-use native.Mathlib.Omega.{arith}
-use Rattle.paper.specs.Words.{sum}
-use Rattle.paper.specs.Limits.{most_ticks}
-use Rattle.theory.specs.Numbers.Sums.{sum_mono, sum_most}
+use Rattle.std.proofs.Common.{ℕ, ◌≤◌, ◌^◌, List, length, get_or, mul-le-mul, arith}
+use Rattle.std.proofs.Math.Nat.{mul-le-mul_right}
+use Rattle.std.proofs.lemmas.List.Sums.{sum_by-le, sum_by-le-sum_by}
+use Rattle.paper.specs.Limits.{most_ticks, most_sharing}
 use Rattle.theory.specs.Streams.Counting.{few, milder_refl, most_events_grows}
 use Rattle.theory.specs.Task.Demand.{Proper}
+use Rattle.stream.specs.Model.{model_of}
 use Rattle.bound.specs.declared.setting.Own.{Own}
-use Rattle.bound.specs.declared.setting.Rivals.{Rivals}
-use Rattle.bound.specs.Setting.{rival_stream, work_of, interference_of, setting_of}
-use Rattle.bound.specs.Ranges.{Recurring, Positive, RivalsInRange}
+use Rattle.bound.specs.declared.setting.Rival.{Rival}
+use Rattle.bound.specs.Setting.{work_of, interference_of, setting_of}
 
--- In a longer span there is as much interference or more.
-interference_grows : (r : Rivals) (s t : ℕ) → s ≤ t → interference_of r s ≤ interference_of r t
+-- In a longer span a rival has as much work or more,
+work_grows : (s t : ℕ) → s ≤ t → (r : Rival) → work_of s r ≤ work_of t r
+work_grows s t h r =
+    mul-le-mul_right _ (most_events_grows (model_of r.input) (model_of r.input) s t (milder_refl _) h)
+
+-- and the setting of a task is proper.
+pub proper : (own : Own) (rivals : List Rival) → Proper (setting_of own rivals)
 unfolding interference_of
-interference_grows r s t h =
-    sum_mono r.count (work_of r s) (work_of r t)
-    (λ i l. mul-le-mul_right _ (most_events_grows (rival_stream r i) (rival_stream r i) s t (milder_refl _) h))
+proper own rivals =
+    record {
+      cost = own.some_cost;
+      longer = λ s t h. sum_by-le-sum_by (work_of s) (work_of t) rivals (work_grows s t h);
+    }
 
--- The setting of a task whose C+ is not 0 is proper.
-pub proper : {own : Own} {r : Rivals} → Positive own r → Proper (setting_of own r)
-proper {r = r} p = record { cost = p.cost; longer = interference_grows r }
+-- The work of a rival in t ticks is at most 2^58 ticks,
+pub work_small : (t : ℕ) → t ≤ most_ticks → (r : Rival) → work_of t r ≤ 2 ^ 58
+work_small t short r =
+    mul-le-mul {n₂ = 2 ^ 38} {m₂ = 2 ^ 20}
+    (omega (arith, few (model_of r.input) t r.recurring, r.jitter_in_range))
+    (omega (arith, r.cost_in_range))
 
-module _ {r : Rivals} (recurring : Recurring r) (ranges : RivalsInRange r) (t : ℕ) (short : t ≤ most_ticks) where
-  -- The work of one rival is at most 2^58 ticks,
-  pub work_small : (i : ℕ) → i < r.count → work_of r t i ≤ 2 ^ 58
-  work_small i l =
-      mul-le-mul {n₂ = 2 ^ 38} {m₂ = 2 ^ 20}
-      (omega (arith, few (rival_stream r i) t (recurring.periods i l), ranges.jitters i l))
-      (omega (arith, ranges.costs i l))
-
-  -- that of the first n rivals at most n times as much,
-  pub works_small : (n : ℕ) → n ≤ r.count → sum n (work_of r t) ≤ n * 2 ^ 58
-  works_small n h = sum_most n (2 ^ 58) (work_of r t) (λ i l. work_small i (omega arith))
-
-  -- and so is that of all of them.
-  pub interference_small : interference_of r t ≤ r.count * 2 ^ 58
-  unfolding interference_of
-  interference_small = works_small r.count (le_refl _)
+-- and the interference of as many rivals as may share a controller fits.
+pub interference_fits : (t : ℕ) → t ≤ most_ticks → (rivals : List Rival) → length rivals ≤ most_sharing
+    → interference_of rivals t ≤ 2 ^ 62
+unfolding interference_of
+interference_fits t short rivals few =
+    omega (arith, sum_by-le (work_of t) (2 ^ 58) rivals (λ k d h. work_small t short (get_or rivals k d)))

@@ -3,20 +3,25 @@ use Prim.Native.Nat.{ℕ, ◌+◌, ◌-◌, ◌≤◌, ◌<◌, max}
 use mathlib.Core.Path.{◌≡◌, refl, ap, subst}
 use native.Mathlib.Nat.{le_refl}
 use native.Mathlib.Decide.{dec_le}
-use native.Mathlib.Numerals.{add-one}
 use native.Mathlib.Omega.{arith}
 use Rattle.paper.specs.Limits.{most_ticks, most_jobs}
 use Rattle.paper.specs.Streams.{d, delayed}
 use Rattle.paper.specs.Windows.{Setting, Window, Ends, Delay, Bound, output, Bounded}
 use Rattle.theory.specs.Numbers.Least.{least_one, least_of}
-use Rattle.theory.specs.Numbers.Ranges.{Every, every_next}
+use Rattle.theory.specs.Numbers.Ranges.{Every}
 use Rattle.theory.specs.Streams.Counting.{d_one}
-use Rattle.bound.specs.Looking.{Seen, Looking, Over}
+use Rattle.bound.specs.Looking.{Seen, Over}
 use Rattle.bound.specs.Answers.{Outside}
 
--- What each number from 1 to n has, and n + 1 has too, each from 1 to n + 1 has.
-every_more : (A : ℕ → Type 0) (n : ℕ) → Every n A → A (n + 1) → Every (n + 1) A
-every_more A n each next = rw (add-one n) (every_next n each (rw (add-one n) at next))
+-- The look goes on: m jobs have been looked at, and none of them was the last to look at.
+pub record Looking (k : Setting) (m R : ℕ) : Type 0 where
+  pub seen : Seen k m R
+  pub on : Every m (λ q. Ends k q → ⊥)
+
+-- What each number from 1 to q - 1 has, and q has too, each from 1 to q has.
+every_more : (A : ℕ → Type 0) (q : ℕ) → Every (q - 1) A → A q → Every q A
+every_more A q each last i a l =
+    elim (dec_le i (q - 1)) [ yes e ↦ each i a e | no e ↦ subst A (omega arith) last ]
 
 module _ {k : Setting} where
   -- A delay of one of n jobs is one of n' jobs, where its job is among them.
@@ -33,54 +38,52 @@ module _ {k : Setting} where
   ends_not : {q B : ℕ} → Window k q B → d k.input (q + 1) < B → Ends k q → ⊥
   ends_not w h e = omega (arith, least_one e.window w)
 
-  -- One job more has been looked at: the largest delay is the old one or that job's.
-  seen_more : {m R B : ℕ} → Seen k m R → Window k (m + 1) B → B ≤ most_ticks
-      → Seen k (m + 1) (max R (B - d k.input (m + 1)))
-  seen_more {m} {R} {B} s w h =
+  -- Job q has been looked at too: the largest delay is the old one or that job's.
+  seen_more : {q R B : ℕ} → 1 ≤ q → Seen k (q - 1) R → Window k q B → B ≤ most_ticks
+      → Seen k q (max R (B - d k.input q))
+  seen_more {q} {R} {B} first s w h =
       record {
-        windows = every_more _ m s.windows (B, w, h);
+        windows = every_more _ q s.windows (B, w, h);
         covers = λ ticks y.
-            elim (dec_le y.q m) [
+            elim (dec_le y.q (q - 1)) [
               | yes l ↦ omega (arith, s.covers ticks (delay_among y l refl))
-              | no l ↦ omega (arith, delay_one (m + 1) (m + 1) B ticks w y (omega arith))
+              | no l ↦ omega (arith, delay_one q q B ticks w y (omega arith))
             ];
         met = λ a.
-            elim (dec_le R (B - d k.input (m + 1))) [
-              | yes l ↦
-                  record { q = m + 1; first = omega arith; last = le_refl _; B = B; window = w; is = omega arith }
+            elim (dec_le R (B - d k.input q)) [
+              | yes l ↦ record { q = q; first = first; last = le_refl _; B = B; window = w; is = omega arith }
               | no l ↦ let y = s.met (omega arith) in delay_among y (omega arith) (omega arith)
             ];
       }
 
   -- The look goes on after a window that is longer than d(q+1),
-  pub looking_more : {m R B : ℕ} → Looking k m R → Window k (m + 1) B → B ≤ most_ticks → d k.input (m + 1 + 1) < B
-      → Looking k (m + 1) (max R (B - d k.input (m + 1)))
-  looking_more {m} p w h apart =
-      record { seen = seen_more p.seen w h; on = every_more _ m p.on (ends_not w apart) }
+  pub looking_more : {q R B : ℕ} → 1 ≤ q → Looking k (q - 1) R → Window k q B → B ≤ most_ticks
+      → d k.input (q + 1) < B → Looking k q (max R (B - d k.input q))
+  looking_more {q} first p w h apart =
+      record { seen = seen_more first p.seen w h; on = every_more _ q p.on (ends_not w apart) }
 
   -- and is over with one that is not.
-  pub looking_last : {m R B : ℕ} → Looking k m R → m < most_jobs → Window k (m + 1) B → B ≤ most_ticks
-      → B ≤ d k.input (m + 1 + 1) → Over k (m + 1) (max R (B - d k.input (m + 1)))
-  looking_last {m} {B = B} p few w h apart =
+  pub looking_last : {q R B : ℕ} → 1 ≤ q → q ≤ most_jobs → Looking k (q - 1) R → Window k q B → B ≤ most_ticks
+      → B ≤ d k.input (q + 1) → Over k q (max R (B - d k.input q))
+  looking_last {B = B} first few p w h apart =
       record {
-        seen = seen_more p.seen w h;
-        jobs =
-            least_of
-            (omega arith, record { B = B; window = w; apart = apart })
-            (λ q l e. p.on q e.0 (omega arith) e.1);
-        few = omega arith;
+        seen = seen_more first p.seen w h;
+        jobs = least_of (first, record { B = B; window = w; apart = apart }) (λ i l e. p.on i e.0 (omega arith) e.1);
+        few = few;
       }
 
-  -- A task whose next window is not within limits leaves them.
-  pub looking_beyond : {m R : ℕ} → Looking k m R → ((b : ℕ) → Window k (m + 1) b → most_ticks < b) → Outside k
-  looking_beyond {m} p none R n b =
+  -- A task whose next window is not within limits leaves them,
+  pub looking_beyond : {q R : ℕ} → 1 ≤ q → Looking k (q - 1) R → ((b : ℕ) → Window k q b → most_ticks < b) → Outside k
+  looking_beyond {q} first p none R n b =
       let last = b.within.jobs.holds in
-      elim (dec_le b.within.n m) [
+      elim (dec_le b.within.n (q - 1)) [
         | yes l ↦ p.on _ last.0 l last.1
-        | no l ↦
-            let w = b.within.windows (m + 1) (omega arith) (omega arith) in
-            omega (arith, none w.0 w.1)
+        | no l ↦ let w = b.within.windows q first (omega arith) in omega (arith, none w.0 w.1)
       ]
+
+  -- and so does one whose look goes on after as many jobs as the limit.
+  pub looking_on : {R : ℕ} → Looking k most_jobs R → Outside k
+  looking_on p R n b = let last = b.within.jobs.holds in p.on _ last.0 b.within.few last.1
 
   -- When the look is over, the largest B(q) - d(q) is the bound.
   over_bound : {n R : ℕ} → Over k n R → Bound k R n

@@ -8,4 +8,4 @@ mod setting;
 mod window;
 
 pub use response::{Worked, work_out};
-pub use setting::{Own, Rivals};
+pub use setting::{Own, Rival};

@@ -17,7 +17,8 @@ below_power zero = omega arith
 below_power (suc k) = rw (pow-suc 10 k) (omega (arith, below_power k))
 
 -- The fewest digits that hold a number, one or more, are its decimal.
-fewest_in : (k most n : ℕ) → k < most → n < 10 ^ suc k → (1 ≤ k → 10 ^ k ≤ n) → last_digits 10 (suc k) n ≡ decimal_in most n
+fewest_in : (k most n : ℕ) → k < most → n < 10 ^ suc k → (1 ≤ k → 10 ^ k ≤ n)
+    → last_digits 10 (suc k) n ≡ decimal_in most n
 unfolding decimal_in
 fewest_in zero zero n h below above = elim h [ ]
 fewest_in (suc k) zero n h below above = elim h [ ]

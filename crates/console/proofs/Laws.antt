@@ -1,18 +1,10 @@
 -- Words put into a text one behind the other. Assumes nothing.
-use Rattle.std.proofs.Common.{ℕ, suc, ◌+◌, ◌*◌, ◌<◌, ◌≡◌, refl, sym, subst, ◌∙◌, List, [], ◌∷◌, ◌++◌, mul-suc, add-suc, suc-add, add-zero, add-one, arith, length, length-append, get_or, drop, set, drop-cons}
+use Rattle.std.proofs.Common.{ℕ, suc, ◌+◌, ◌*◌, ◌≡◌, refl, ◌∙◌, List, [], ◌∷◌, ◌++◌}
+use Rattle.std.proofs.Common.{mul-suc, add-suc, suc-add, add-zero, arith, length, length-append, set}
 use Rattle.std.proofs.lemmas.List.Edits.{sets}
 use Rattle.paper.specs.Bytes.{Bytes}
-use Rattle.paper.specs.Answer.{Due}
 use Rattle.paper.specs.Line.{hex_of}
-use Rattle.bench.specs.Answers.{Answers, said, numbered}
-use Rattle.bench.specs.declared.answers.Answer.{Answer}
-use Rattle.bench.specs.declared.answers.Numbers.{Numbers}
 use Rattle.console.specs.Said.{Put}
-
--- Storing byte i, and then the bytes behind it, is storing those from i on.
-pub byte_more : (bytes text : List ℕ) (at i : ℕ) → i < length bytes
-    → sets (set text (at + i) (get_or bytes i 0)) (at + (i + 1)) (drop (i + 1) bytes) ≡ sets text (at + i) (drop i bytes)
-byte_more bytes text at i h = rw (drop-cons bytes i 0 h, add-one i, add-suc at i)
 
 -- A byte has two digits.
 pub hex_long : (s : List ℕ) → length (hex_of s) ≡ 2 * length s
@@ -33,8 +25,3 @@ put_more {before} {a = a} {b = b} {at = at} first then =
       stored = rw (first.stored, first.ends) at then.stored ∙ sets_more before at a b;
       ends = omega (arith, first.ends, then.ends, length-append a b);
     }
-
--- The answer's three numbers, as the code hands them on, are those of the answer that is due.
-pub due_numbered : {s out : Bytes} {room : ℕ} {answer : Answer} {n : Numbers} → Answers s room answer out
-    → numbered n ≡ said answer → Due s room (numbered n) out
-due_numbered {s} {out} {room} answers same = subst (λ a. Due s room a out) (sym same) answers.due

@@ -6,6 +6,6 @@ mod input;
 mod line;
 mod text;
 
-pub use failing::fail;
-pub use input::{Input, read_up_to};
+pub use failing::Why;
+pub use input::{Cut, read_up_to};
 pub use line::{LINE, answer_line, answer_line_and_sweep};

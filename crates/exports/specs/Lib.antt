@@ -1,3 +1,2 @@
--- What the entries for C and Rust promise, and that no two outcomes satisfy it.
-pub mod Part
+-- No two outcomes satisfy the contract of an entry for C and Rust.
 pub mod Unique

@@ -4,7 +4,7 @@ use Rattle.std.proofs.Common.{ap, sym, ◌∙◌, arith, length-drop, length-tak
 use Rattle.paper.specs.Bytes.{Bytes}
 use Rattle.paper.specs.Answer.{Answer, Due}
 use Rattle.theory.specs.Outcomes.Unique.{due_one, asked_one}
-use Rattle.exports.specs.Part.{Lies}
+use Rattle.rules.specs.Part.{Lies}
 
 -- late_answer hands back one number, stores one place and one sweep number, and leaves one content of the report space.
 pub answer_one : {s out out' : Bytes} {room number number' place place' sweep sweep' : ℕ}

@@ -1,11 +1,11 @@
 // The functions that a static library holds. A slice is a pointer and a length for the caller, a reference a pointer.
 ghost use Rattle.std.specs.Prelude.{◌≡◌, length};
 ghost use Rattle.paper.specs.Answer.{Due};
-ghost use Rattle.exports.specs.Part.{Lies};
+ghost use Rattle.rules.specs.Part.{Lies};
 ghost use Rattle.paper.specs.Report.{report_bytes};
 
-use crate::parts::any_part;
 use limits::REPORT_BYTES;
+use rules::path_place;
 
 // The answer to a plan: hands back its number, stores its place and its sweep number, and leaves its report or FF in the
 // report space.
@@ -19,7 +19,7 @@ pub extern "C" fn late_answer(
     ensures { Due plan.now (length report.old)
         (record { number = result; place = place.new; sweep = sweep.new }) report.new }
 {
-    let numbers = bench::numbers_of(bench::answer(plan, report));
+    let numbers = bench::Numbers::from(bench::answer(plan, report));
     *place = numbers.place;
     *sweep = numbers.sweep;
     numbers.number
@@ -31,9 +31,9 @@ pub extern "C" fn late_answer(
 pub extern "C" fn late_path(plan: &[u8], path: u64, from: &mut u64) -> u64
     ensures { Lies plan.now path from.new result }
 {
-    let found = any_part(plan, path as usize);
+    let found = path_place(plan, path as usize);
     *from = found.from as u64;
-    found.count as u64
+    found.steps as u64
 }
 
 // So many bytes are room enough for any report.

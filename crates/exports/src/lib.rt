@@ -2,6 +2,5 @@
 #![tactic(auto)]
 
 mod entries;
-mod parts;
 
 pub use entries::{late_answer, late_path, late_report_bytes};

@@ -1,4 +1,5 @@
--- The laws that the proofs of src/lib.rt cite, and callers' proofs (`Columns`).
-mod Fraction
+-- The laws that the proofs of src/lib.rt cite, and callers' proofs (`Shares`).
+mod Pair
+mod Room
 mod Ran
-pub mod Columns
+pub mod Shares

@@ -1,5 +1,5 @@
 -- What the contracts cite besides `paper`.
 pub mod Limbs
 pub mod Fraction
-pub mod Columns
+pub mod Shares
 pub mod Unique

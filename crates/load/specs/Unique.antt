@@ -1,57 +1,57 @@
 -- The question for the lowest overloaded controller has one answer.
-use Rattle.std.specs.Prelude.{ℕ, ◌≡◌, refl, List, []}
+use Rattle.std.specs.Prelude.{ℕ, ◌≡◌, refl, List, [], length, Option, Some, None}
 use Rattle.std.proofs.Common.{sym, ap}
 use Rattle.paper.specs.Tables.{outside, Plan}
 use Rattle.theory.specs.Numbers.Least.{least_one}
 use Rattle.theory.specs.Plans.Inputs.{period_outside}
-use Rattle.load.specs.Columns.{at, Columns, Says}
-use Rattle.load.specs.declared.Overload.{Overload}
-use Rattle.load.specs.declared.Overload.TheVariants.{At, Nowhere}
+use Rattle.stream.specs.declared.kinds.ControllerNo.{ControllerNo}
+use Rattle.load.specs.declared.Share.{Share}
+use Rattle.load.specs.Shares.{share_of, cost_in, period_in, Shares, Says}
 
--- A plan that has given columns: all of its tasks are fed from outside, and it has no paths.
-abbrev plan_with : (controllers tasks : ℕ) (controller cost periods : List ℕ) → Plan
-plan_with controllers tasks controller cost periods =
+-- A plan whose tasks have given shares: all of its tasks are fed from outside, and it has no paths.
+abbrev plan_with : (controllers : ℕ) (shares : List Share) → Plan
+plan_with controllers shares =
     record {
       controllers = controllers;
-      tasks = tasks;
+      tasks = length shares;
       paths = 0;
       task = λ k.
           record {
-            controller = at controller k;
+            controller = (share_of shares k).controller.0;
             priority = k;
-            C- = at cost k;
-            C+ = at cost k;
-            source = outside (record { P = at periods k; J = 0 });
+            C- = cost_in shares k;
+            C+ = cost_in shares k;
+            source = outside (record { P = period_in shares k; J = 0 });
           };
       deadline = λ q. 0;
       path = λ q. [];
     }
 
 -- Two answers that say one plan's lowest overloaded controller are one.
-says_one : (p : Plan) (r r' : Overload) → Says p r → Says p r' → r ≡ r'
-says_one p (At c) (At c') l l' = ap (λ (c : ℕ). At (record { 0 = c })) (least_one l l')
-says_one p (At c) Nowhere l none = absurd (none c.0 l.holds)
-says_one p Nowhere (At c) none l = absurd (none c.0 l.holds)
-says_one p Nowhere Nowhere none none' = refl
+says_one : (p : Plan) (r r' : Option ControllerNo) → Says p r → Says p r' → r ≡ r'
+says_one p (Some c) (Some c') l l' = ap (λ (c : ℕ). Some (record { 0 = c })) (least_one l l')
+says_one p (Some c) None l none = absurd (none c.0 l.holds)
+says_one p None (Some c) none l = absurd (none c.0 l.holds)
+says_one p None None none none' = refl
 
-module _ (controllers tasks : ℕ) (controller cost periods : List ℕ) where
-  -- Whatever the columns, some plan has them.
-  pub some_plan : (p : Plan) × Columns p controllers tasks controller cost periods
+module _ (controllers : ℕ) (shares : List Share) where
+  -- Whatever the shares, some plan's tasks have them.
+  pub some_plan : (p : Plan) × Shares p controllers shares
   some_plan =
-      let p = plan_with controllers tasks controller cost periods in (
+      let p = plan_with controllers shares in (
         p,
         record {
           controllers_are = refl;
           tasks_are = refl;
           controller_of = λ k l. refl;
           cost_of = λ k l. refl;
-          period_is = λ k l. sym (period_outside p k (record { P = at periods k; J = 0 }) refl);
+          period_is = λ k l. sym (period_outside p k (record { P = period_in shares k; J = 0 }) refl);
         },
       )
 
   -- No two answers meet the contract of `lowest_overloaded`: two that do are one.
-  pub lowest_one : (r r' : Overload) → ((p : Plan) → Columns p controllers tasks controller cost periods → Says p r)
-      → ((p : Plan) → Columns p controllers tasks controller cost periods → Says p r') → r ≡ r'
+  pub lowest_one : (r r' : Option ControllerNo) → ((p : Plan) → Shares p controllers shares → Says p r)
+      → ((p : Plan) → Shares p controllers shares → Says p r') → r ≡ r'
   lowest_one r r' meets meets' =
-      let (p, columns) = some_plan in
-      says_one p r r' (meets p columns) (meets' p columns)
+      let (p, has) = some_plan in
+      says_one p r r' (meets p has) (meets' p has)

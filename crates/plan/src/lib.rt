@@ -3,18 +3,18 @@
 
 mod bytes;
 mod fields;
-mod judged;
+mod head;
 mod paths;
-mod places;
 mod reading;
+mod refusal;
 mod tags;
 mod tasks;
 mod values;
 mod walker;
 
-pub use bytes::byte_at;
-pub use fields::controllers_of;
-pub use judged::{Judged, unless};
-pub use paths::{Paths, part_of, path_columns};
+pub use bytes::number_at;
+pub use head::{Head, head_of};
+pub use paths::{Part, Path, part_of, path_rows};
 pub use reading::read;
-pub use tasks::{Tasks, task_columns};
+pub use refusal::{Refusal, unless};
+pub use tasks::{Source, Task, task_rows};

@@ -1,4 +1,4 @@
-// The tags of a plan's fields.
+// The tags of a plan's fields. (Numbers and no enum: each is only ever compared with a byte that may be any.)
 
 // The head.
 pub(crate) const HEAD: u64 = 0x01;

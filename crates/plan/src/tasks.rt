@@ -1,111 +1,86 @@
-// The tasks of a plan, a column for each of their values.
-ghost use Rattle.std.specs.Prelude.{◌<◌, ◌^◌, ◌≡◌};
-ghost use Rattle.paper.specs.Tables.{plan_of, source_at};
-ghost use Rattle.paper.specs.Load.{period_of};
-ghost use Rattle.plan.specs.Tables.{is_fed, feeder_of, jitter_of, task_columns};
+// The tasks of a plan, a row for each.
+ghost use Rattle.std.specs.Prelude.{◌≡◌};
+ghost use Rattle.paper.specs.Tables as Tables;
+ghost use Rattle.paper.specs.Tables.{plan_of};
+ghost use Rattle.plan.specs.Tables.{source_of, task_of, task_rows};
+ghost use Rattle.plan.specs.declared.tasks.Source.TheVariants.{Fed};
 
-use crate::bytes::{byte_at, four_at, within_room};
-use crate::fields::{controllers_of, tasks_of};
+use crate::head::head_of;
 use crate::tags::FED;
-use crate::walker::{place, walked};
+use crate::walker::{Walker, place};
+use arrayvec::ArrayVec;
 use limits::TASKS;
-use stream::{TaskNo, Ticks};
+use stream::{ControllerNo, EventModel, TaskNo, Ticks};
 
-// How many tasks, and task k's values at k: its controller, its priority, C-, C+ and what activates it. What only the other
-// kind of task has is 0, and so is all past the count.
-#[derive(Clone, Copy)]
-pub struct Tasks {
-    pub count: usize,
-    pub controller: [usize; TASKS],
-    pub priority: [u64; TASKS],
-    pub least: [u64; TASKS],
-    pub most: [u64; TASKS],
-    pub fed: [bool; TASKS],
-    pub feeder: [usize; TASKS],
-    pub period: [u64; TASKS],
-    pub jitter: [u64; TASKS],
+// What activates a task: events of a stream from outside, or each completion of its feeder.
+#[derive(Clone, Copy, PartialEq, Eq)]
+pub enum Source {
+    Outside(EventModel),
+    Fed(TaskNo),
 }
 
-// Whether the task whose field is at a place is fed by another one.
-fn fed_at(s: &[u8], at: usize) -> bool
-    ensures { result ≡ is_fed (source_at s.now at) }
-{
-    byte_at(s, at) == FED
-}
+// What the unused places of a table hold.
+impl Default for Source {
+    ghost is_default = { λ s. s ≡ Fed (record { 0 = 0 }) };
 
-// Its feeder, 0 where it has none.
-fn feeder_at(s: &[u8], at: usize) -> TaskNo
-    requires { at < 2 ^ 32 }
-    ensures { result.0 ≡ feeder_of (source_at s.now at) }
-{
-    if byte_at(s, at) == FED {
-        TaskNo(byte_at(s, at + 13) as usize)
-    } else {
-        TaskNo(0)
+    // The source of a task that task 0 feeds.
+    fn default() -> Self {
+        Source::Fed(TaskNo(0))
     }
 }
 
-// Its period, 0 where it is fed.
-fn period_at(s: &[u8], at: usize) -> Ticks
-    requires { at < 2 ^ 32 }
-    ensures { result.0 ≡ period_of (source_at s.now at) }
-{
-    if byte_at(s, at) == FED {
-        Ticks(0)
-    } else {
-        Ticks(four_at(s, at + 13))
+// A task: its controller, its priority (smaller is more urgent), C-, C+ and its source.
+#[derive(Clone, Copy, PartialEq, Eq, Default)]
+pub struct Task {
+    pub controller: ControllerNo,
+    pub priority: u64,
+    pub least: Ticks,
+    pub most: Ticks,
+    pub source: Source,
+}
+
+impl Walker<'_> {
+    // What feeds the task whose field is at the walker's place.
+    #[tactic(auto, unfolding(paper::specs::Tables::source_at, paper::specs::Tables::stream_at))]
+    fn source(self) -> Source
+        ensures { source_of result ≡ Tables.source_at self.entry.plan.now self.entry.at }
+    {
+        if self.tag() == FED {
+            return Source::Fed(TaskNo(self.number::<1>(13) as usize));
+        }
+        Source::Outside(EventModel {
+            period: Ticks(self.number::<4>(13)),
+            jitter: Ticks(self.number::<4>(17)),
+        })
+    }
+
+    // The task itself.
+    #[tactic(auto, unfolding(paper::specs::Tables::task_at))]
+    fn task(self) -> Task
+        ensures { task_of result ≡ Tables.task_at self.entry.plan.now self.entry.at }
+    {
+        Task {
+            controller: ControllerNo(self.number::<1>(3) as usize),
+            priority: self.number::<1>(4),
+            least: Ticks(self.number::<4>(5)),
+            most: Ticks(self.number::<4>(9)),
+            source: self.source(),
+        }
     }
 }
 
-// Its jitter, 0 where it is fed.
-fn jitter_at(s: &[u8], at: usize) -> Ticks
-    requires { at < 2 ^ 32 }
-    ensures { result.0 ≡ jitter_of (source_at s.now at) }
+// The tasks of the plan, as many as there is room for. (One generic function for these rows and those of the paths would
+// have to ask that rows of any type fit in memory.)
+pub fn task_rows(s: &[u8]) -> ArrayVec<Task, TASKS>
+    ensures { result.items ≡ task_rows (plan_of s.now) }
 {
-    if byte_at(s, at) == FED {
-        Ticks(0)
-    } else {
-        Ticks(four_at(s, at + 17))
+    let count = head_of(s);
+    let mut rows = ArrayVec::new();
+    let mut at = place(s, 1 + count.controllers);
+    for k in 0..count.tasks.min(TASKS) {
+        let walker = Walker::placed(s, at);
+        rows.push(walker.task());
+        at = walker.next();
     }
-}
-
-// The tasks of the plan.
-pub fn task_columns(s: &[u8]) -> Tasks
-    ensures { result ≡ task_columns (plan_of s.now) }
-{
-    let count = tasks_of(s) as usize;
-    let mut controller = [0usize; TASKS];
-    let mut priority = [0u64; TASKS];
-    let mut least = [0u64; TASKS];
-    let mut most = [0u64; TASKS];
-    let mut fed = [false; TASKS];
-    let mut feeder = [0usize; TASKS];
-    let mut period = [0u64; TASKS];
-    let mut jitter = [0u64; TASKS];
-    let mut at = place(s, 1 + controllers_of(s) as usize);
-    let n = within_room(count, TASKS);
-    let mut k: usize = 0;
-    while k < n {
-        controller[k] = byte_at(s, at + 3) as usize;
-        priority[k] = byte_at(s, at + 4);
-        least[k] = four_at(s, at + 5);
-        most[k] = four_at(s, at + 9);
-        fed[k] = fed_at(s, at);
-        feeder[k] = feeder_at(s, at).0;
-        period[k] = period_at(s, at).0;
-        jitter[k] = jitter_at(s, at).0;
-        at = walked(s, at);
-        k += 1;
-    }
-    Tasks {
-        count,
-        controller,
-        priority,
-        least,
-        most,
-        fed,
-        feeder,
-        period,
-        jitter,
-    }
+    rows
 }

@@ -1,12 +1,12 @@
 -- Laws of runs of stores, on which the writers' proofs rest. Assumes nothing.
-use Rattle.std.proofs.Common.{ℕ, zero, suc, ◌+◌, ◌-◌, ◌≤◌, ◌<◌, ◌*◌, ◌/◌, ◌%◌, ◌≡◌, refl, sym, ap, ap₂, ◌∙◌, [], ◌∷◌, ◌++◌, append-nil, append_assoc, add-suc, suc-add, add-zero, zero-add, add-one, sub-one, arith, length, take, drop, set, replicate, length-drop, drop_of_length-le, take_all, take_at, drop-drop}
-use Rattle.std.proofs.lemmas.List.{set_comm}
+use Rattle.std.proofs.Common.{ℕ, suc, ◌+◌, ◌-◌, ◌≤◌, ◌*◌, ◌≡◌, sym, ap, ap₂, ◌∙◌}
+use Rattle.std.proofs.Common.{[], ◌∷◌, ◌++◌, append-nil, append_assoc, add-suc, suc-add, add-zero, zero-add, add-one, arith}
+use Rattle.std.proofs.Common.{length, take, drop, set, replicate, length-drop, drop_of_length-le, take_all, take_at, drop-drop}
 use Rattle.std.proofs.lemmas.List.Edits.{sets, sets-eq}
 use Rattle.std.proofs.Math.Seq.{length-sets}
 use borrow.Rule.Slice.PartMut.{mid_of, post_of, put_mid}
-use Rattle.paper.specs.Bytes.{Bytes, bytes}
+use Rattle.paper.specs.Bytes.{Bytes}
 use Rattle.paper.specs.Report.{each}
-use Rattle.theory.specs.Bytes.{bytes_length}
 use Rattle.theory.specs.Report.Length.{each_length}
 use Rattle.report.specs.Wrote.{Wrote}
 
@@ -15,48 +15,22 @@ pub sets_append : (l : Bytes) (i : ℕ) (vs ws : Bytes) → sets (sets l i vs) (
 sets_append l i [] ws = rw (add-zero i)
 sets_append l i (v ∷ vs) ws = rw (add-suc, ← suc-add) (sets_append (set l i v) (suc i) vs ws)
 
--- A store past a run of stores may come before it.
-pub sets_past : (l : Bytes) (i : ℕ) (vs : Bytes) (j b : ℕ) → i + length vs ≤ j
-    → sets (set l j b) i vs ≡ set (sets l i vs) j b
-sets_past l i [] j b h = refl
-sets_past l i (v ∷ vs) j b h =
-    let h' : suc i + length vs ≤ j = omega (arith, suc-add i (length vs), add-suc i (length vs)) in
-    let apart : j ≡ i → ⊥ = λ e. omega arith in
-    rw (set_comm l j i b v apart) (sets_past (set l i v) (suc i) vs j b h')
-
--- The last byte of a number may be stored first: the bytes before it are a shorter number's.
-pub last_byte : (l : Bytes) (at width n : ℕ) → 0 < width
-    → sets (set l (at + (width - 1)) (n % 256)) at (bytes (width - 1) (n / 256)) ≡ sets l at (bytes width n)
-unfolding bytes
-last_byte l at zero n h = absurd (omega arith)
-last_byte l at (suc width) n h =
-    let front = bytes width (n / 256) in
-    let e : length front ≡ width = bytes_length width (n / 256) in
-    let past : at + length front ≤ at + width = omega (arith, e) in
-    rw (sub-one (suc width))
-    (sets_past l at front (at + width) (n % 256) past
-    ∙ ap (λ k. set (sets l at front) (at + k) (n % 256)) (sym e)
-    ∙ sets_append l at front (n % 256 ∷ []))
-
--- A byte stored, and then its like to the end, is its like from there to the end.
-pub one_more : (l : Bytes) (i n b : ℕ) → i < n
-    → sets (set l i b) (i + 1) (replicate (n - (i + 1)) b) ≡ sets l i (replicate (n - i) b)
-one_more l i n b h =
-    let e : n - i ≡ suc (n - (i + 1)) = omega arith in
-    rw (e, add-one i)
-
--- Stores that run to the end leave what stood before them, and themselves.
-pub to_the_end : (l : Bytes) (from : ℕ) (vs : Bytes) → from + length vs ≡ length l → sets l from vs ≡ take from l ++ vs
-to_the_end l from vs h =
-    let fits : from + length vs ≤ length l = omega (arith, h) in
-    let past : length l ≤ from + length vs = omega (arith, h) in
-    sets-eq vs l from fits ∙ ap (λ r. take from l ++ vs ++ r) (drop_of_length-le l past) ∙ append-nil (take from l ++ vs)
-
 -- Bytes written right behind those at the front make these longer.
 pub more : {l l' l'' : Bytes} {at : ℕ} {xs ys : Bytes} → Wrote l 0 xs l' → Wrote l' at ys l'' → length xs ≡ at
     → Wrote l 0 (xs ++ ys) l''
 more {l} {l'} {l''} {at} {xs} {ys} front behind long =
     record { is = behind.is ∙ rw (front.is, ← long, ← zero-add (length xs)) (sets_append l 0 xs ys) }
+
+-- Bytes in place of as many in the middle are bytes written there.
+pub placed : (at k : ℕ) (l ys : Bytes) → at + k ≤ length l → length ys ≡ k → Wrote l at ys (put_mid at k l ys)
+placed at k l ys room long =
+    let fits : at + length ys ≤ length l = omega arith in
+    record {
+      is =
+          ap (λ x. take at l ++ (ys ++ x)) (drop-drop k at l ∙ ap (λ n. drop (at + n) l) (sym long))
+          ∙ sym (append_assoc (take at l) ys (drop (at + length ys) l))
+          ∙ sym (sets-eq ys l at fits);
+    }
 
 -- Bytes written at the front of the part that is lent from a place to the end are bytes written at that place.
 pub lent : (at k : ℕ) (l ys m : Bytes) → at + k ≡ length l → length ys ≤ k → Wrote (mid_of at k l) 0 ys m

@@ -1,3 +1,3 @@
 -- Laws that several functions' proofs cite.
+mod Bytes
 mod Laws
-mod Rows

@@ -1,84 +1,110 @@
 // The report's records: each is written at the front of the part of the report that begins where the last one ended.
-ghost use Rattle.std.specs.Prelude.{◌≡◌, ◌++◌, ◌≤◌, length};
-ghost use Rattle.paper.specs.Bytes.{bytes, difference};
+ghost use Rattle.std.specs.Prelude.{◌≡◌, ◌++◌, ◌-◌, ◌≤◌, ℕ, length};
+ghost use Rattle.paper.specs.Bytes.{Bytes, bytes};
+ghost use Rattle.paper.specs.Report.{head_record};
+ghost use Rattle.report.specs.Figured.{of_task, of_path};
+ghost use Rattle.report.specs.Rows.{task_long, path_long};
 ghost use Rattle.report.specs.Wrote.{Wrote};
-ghost use Rattle.paper.specs.Report.{head_record, task_record, verdict, path_record};
 
+use crate::figures::{PathFigures, TaskFigures};
 use crate::numbers::put;
-use stream::{Events, TaskNo, Ticks};
+use crate::tags;
 
-// Writes a record's tag and the length of its value.
-fn heading(rest: &mut [u8], tag: u64, long: u64)
-    requires { 3 ≤ length rest.old }
-    ensures { Wrote rest.old 0 (bytes 1 tag ++ bytes 2 long) rest.new }
+// Writes the tag of a record of so many bytes, and the length of its value: all but the 3 bytes of tag and length.
+fn heading(rest: &mut [u8], tag: u64, long: usize)
+    requires { (3 ≤ long) × (long ≤ length rest.old) }
+    ensures { Wrote rest.old 0 (bytes 1 tag ++ bytes 2 (long - 3)) rest.new }
 {
-    put(rest, 0, 1, tag);
-    put(rest, 1, 2, long);
+    put::<1>(rest, 0, tag);
+    put::<2>(rest, 1, long as u64 - 3);
 }
 
-// Writes the head: edition 1; sweeps; tasks; paths.
-pub(crate) fn head_record(rest: &mut [u8], sweeps: u64, tasks: usize, paths: usize)
-    requires { 14 ≤ length rest.old }
-    ensures { Wrote rest.old 0 (head_record sweeps tasks paths) rest.new }
-{
-    heading(rest, 0x81, 11);
-    put(rest, 3, 1, 1);
-    put(rest, 4, 8, sweeps);
-    put(rest, 12, 1, tasks as u64);
-    put(rest, 13, 1, paths as u64);
+// What stands in the head: the sweeps, how many tasks, how many paths.
+#[derive(Clone, Copy)]
+pub(crate) struct Head {
+    pub(crate) sweeps: u64,
+    pub(crate) tasks: usize,
+    pub(crate) paths: usize,
 }
 
-// Writes a task's record: task; R-, R+, input jitter, output jitter; jobs looked at.
-pub(crate) fn task_record(
-    rest: &mut [u8],
-    task: TaskNo,
-    least: Ticks,
-    bound: Ticks,
-    input: Ticks,
-    output: Ticks,
-    jobs: Events,
-)
-    requires { 22 ≤ length rest.old }
-    ensures { Wrote rest.old 0 (task_record task.0 least.0 bound.0 input.0 output.0 jobs.0) rest.new }
-{
-    heading(rest, 0x90, 19);
-    put(rest, 3, 1, task.0 as u64);
-    put(rest, 4, 4, least.0);
-    put(rest, 8, 4, bound.0);
-    put(rest, 12, 4, input.0);
-    put(rest, 16, 4, output.0);
-    put(rest, 20, 2, jobs.0);
-}
+impl Head {
+    // "81, 11": 3 bytes and 11.
+    pub(crate) const LONG: usize = 14;
 
-// A path's verdict: 1 where it meets its deadline, 2 where it misses.
-fn verdict_of(deadline: Ticks, worst: Ticks) -> u64
-    ensures { result ≡ verdict deadline.0 worst.0 }
-{
-    if worst.0 <= deadline.0 { 1 } else { 2 }
-}
-
-// The slack, deadline minus worst, as the number that two's complement makes of it.
-fn slack_of(deadline: Ticks, worst: Ticks) -> u64
-    ensures { bytes 8 result ≡ difference 8 deadline.0 worst.0 }
-{
-    if worst.0 <= deadline.0 {
-        deadline.0 - worst.0
-    } else {
-        0xFFFF_FFFF_FFFF_FFFF - (worst.0 - deadline.0) + 1
+    // Writes the head: edition 1; sweeps; tasks; paths.
+    pub(crate) fn write(self, rest: &mut [u8])
+        requires { 14 ≤ length rest.old }
+        ensures { Wrote rest.old 0 (head_record self.sweeps self.tasks self.paths) rest.new }
+    {
+        heading(rest, tags::HEAD, Head::LONG);
+        put::<1>(rest, 3, 1);
+        put::<8>(rest, 4, self.sweeps);
+        put::<1>(rest, 12, self.tasks as u64);
+        put::<1>(rest, 13, self.paths as u64);
     }
 }
 
-// Writes a path's record: path; verdict; best, worst, slack.
-pub(crate) fn path_record(rest: &mut [u8], path: usize, deadline: Ticks, best: Ticks, worst: Ticks)
-    requires { 29 ≤ length rest.old }
-    ensures { Wrote rest.old 0 (path_record path deadline.0 best.0 worst.0) rest.new }
-{
-    let verdict = verdict_of(deadline, worst);
-    let slack = slack_of(deadline, worst);
-    heading(rest, 0xA0, 26);
-    put(rest, 3, 1, path as u64);
-    put(rest, 4, 1, verdict);
-    put(rest, 5, 8, best.0);
-    put(rest, 13, 8, worst.0);
-    put(rest, 21, 8, slack);
+// The figures of a task or a path, which stand in a record of their own.
+pub(crate) trait Record: Copy {
+    // How many bytes the record is long,
+    const LONG: usize;
+
+    // which contracts name too.
+    ghost LONG: { ℕ };
+
+    // The record of the task or the path that has this number.
+    ghost record_of: { Self → ℕ → Bytes };
+
+    // Writes that record.
+    fn write(&self, number: usize, rest: &mut [u8])
+        requires { LONG ≤ length rest.old }
+        ensures { Wrote rest.old 0 (record_of self.now number) rest.new };
+
+    // Each record is as long as that.
+    ghost all_long: { (x : Self) (number : ℕ) → length (record_of x number) ≡ LONG };
+}
+
+// A task's figures stand in the task's record.
+impl Record for TaskFigures {
+    // "90, 19": 3 bytes and 19.
+    const LONG: usize = 22;
+
+    ghost LONG = { 22 };
+
+    ghost record_of = { of_task };
+
+    ghost all_long = { task_long };
+
+    // Writes a task's record: task; R-, R+, input jitter, output jitter; jobs looked at.
+    fn write(&self, number: usize, rest: &mut [u8]) {
+        heading(rest, tags::TASK, TaskFigures::LONG);
+        put::<1>(rest, 3, number as u64);
+        put::<4>(rest, 4, self.least.0);
+        put::<4>(rest, 8, self.bound.0);
+        put::<4>(rest, 12, self.input.0);
+        put::<4>(rest, 16, self.output.0);
+        put::<2>(rest, 20, self.jobs.0);
+    }
+}
+
+// A path's figures stand in the path's record.
+impl Record for PathFigures {
+    // "A0, 26": 3 bytes and 26.
+    const LONG: usize = 29;
+
+    ghost LONG = { 29 };
+
+    ghost record_of = { of_path };
+
+    ghost all_long = { path_long };
+
+    // Writes a path's record: path; verdict; best, worst, slack.
+    fn write(&self, number: usize, rest: &mut [u8]) {
+        heading(rest, tags::PATH, PathFigures::LONG);
+        put::<1>(rest, 3, number as u64);
+        put::<1>(rest, 4, self.verdict().number());
+        put::<8>(rest, 5, self.best.0);
+        put::<8>(rest, 13, self.worst.0);
+        put::<8>(rest, 21, self.slack());
+    }
 }

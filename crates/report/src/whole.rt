@@ -1,105 +1,49 @@
 // The whole report: head, task records, path records, and FF to the end of the space.
-ghost use Rattle.std.specs.Prelude.{◌≡◌, ◌++◌, ◌+◌, ◌*◌, ◌-◌, ◌≤◌, length};
+ghost use Rattle.std.specs.Prelude.{◌≡◌, ◌++◌, ◌+◌, ◌*◌, ◌-◌, ◌≤◌, length, get_or};
 ghost use Rattle.paper.specs.Report.{each};
 ghost use Rattle.paper.specs.Answer.{blank};
 ghost use Rattle.report.specs.Wrote.{Wrote};
-ghost use Rattle.report.specs.Figured.{task_row, path_row, whole_of, long_of};
+ghost use Rattle.report.specs.Figured.{whole_of, long_of};
 ghost use Rattle.paper.specs.Limits.{most_tasks, most_paths};
 
+use crate::figures::{PathFigures, TaskFigures};
 use crate::numbers::fill;
-use crate::records::{head_record, path_record, task_record};
-use limits::{PATHS, TASKS};
-use stream::{Events, TaskNo, Ticks};
+use crate::records::{Head, Record};
 
-// The columns that a report is written from: what stands at k belongs to task k, or to path k.
-#[derive(Clone, Copy)]
-pub struct Columns {
-    pub sweeps: u64,
-    pub tasks: usize,
-    pub paths: usize,
-    pub least: [u64; TASKS],
-    pub bound: [u64; TASKS],
-    pub input: [u64; TASKS],
-    pub output: [u64; TASKS],
-    pub jobs: [u64; TASKS],
-    pub deadline: [u64; PATHS],
-    pub best: [u64; PATHS],
-    pub worst: [u64; PATHS],
-}
-
-// Writes the records of the tasks, one after the other, each into the part that begins where the last one ended.
-fn task_records<'a>(
-    rest: &mut [u8],
-    tasks: usize,
-    least: &'a [u64; TASKS],
-    bound: &'a [u64; TASKS],
-    input: &'a [u64; TASKS],
-    output: &'a [u64; TASKS],
-    jobs: &'a [u64; TASKS],
-)
-    requires { (tasks ≤ most_tasks) × (22 * tasks ≤ length rest.old) }
-    ensures { Wrote rest.old 0 (each tasks (task_row least.now bound.now input.now output.now jobs.now)) rest.new }
+// Writes records one after the other, each into the part that begins where the last one ended.
+fn records<R: Record>(rest: &mut [u8], rows: &[R])
+    requires { R.LONG * length rows.now ≤ length rest.old }
+    ensures { (none : R)
+        → Wrote rest.old 0 (each (length rows.now) (λ k. R.record_of (get_or rows.now k none) k)) rest.new }
 {
-    let mut k = 0;
-    while k < tasks {
-        let at = 22 * k;
-        task_record(
-            &mut rest[at..],
-            TaskNo(k),
-            Ticks(least[k]),
-            Ticks(bound[k]),
-            Ticks(input[k]),
-            Ticks(output[k]),
-            Events(jobs[k]),
-        );
-        k += 1;
+    for (k, row) in rows.iter().enumerate() {
+        row.write(k, &mut rest[R::LONG * k..]);
     }
 }
 
-// Writes the records of the paths, one after the other, each into the part that begins where the last one ended.
-fn path_records<'a>(
-    rest: &mut [u8],
-    paths: usize,
-    deadline: &'a [u64; PATHS],
-    best: &'a [u64; PATHS],
-    worst: &'a [u64; PATHS],
-)
-    requires { (paths ≤ most_paths) × (29 * paths ≤ length rest.old) }
-    ensures { Wrote rest.old 0 (each paths (path_row deadline.now best.now worst.now)) rest.new }
+// "Length is 14 + 22 for each task + 29 for each path."
+pub fn length_of(tasks: usize, paths: usize) -> usize
+    requires { (tasks ≤ most_tasks) × (paths ≤ most_paths) }
+    ensures { result ≡ 14 + 22 * tasks + 29 * paths }
 {
-    let mut q = 0;
-    while q < paths {
-        let at = 29 * q;
-        path_record(
-            &mut rest[at..],
-            q,
-            Ticks(deadline[q]),
-            Ticks(best[q]),
-            Ticks(worst[q]),
-        );
-        q += 1;
-    }
+    Head::LONG + TaskFigures::LONG * tasks + PathFigures::LONG * paths
 }
 
-// Writes the whole report of the columns, and FF after it to the end of the space.
-pub fn write(out: &mut [u8], c: Columns)
-    requires { (c.tasks ≤ most_tasks) × (c.paths ≤ most_paths) × (long_of c ≤ length out.old) }
-    ensures { out.new ≡ whole_of c ++ blank (length out.old - long_of c) }
+// Writes the whole report of the figures, and FF after it to the end of the space.
+pub fn write(out: &mut [u8], sweeps: u64, tasks: &[TaskFigures], paths: &[PathFigures])
+    requires { (length tasks.now ≤ most_tasks)
+        × (length paths.now ≤ most_paths)
+        × (long_of tasks.now paths.now ≤ length out.old) }
+    ensures { out.new ≡ whole_of sweeps tasks.now paths.now ++ blank (length out.old - long_of tasks.now paths.now) }
 {
-    let tasks = c.tasks;
-    let paths = c.paths;
-    head_record(out, c.sweeps, tasks, paths);
-    task_records(
-        &mut out[14..],
-        tasks,
-        &c.least,
-        &c.bound,
-        &c.input,
-        &c.output,
-        &c.jobs,
-    );
-    let to_paths = 14 + 22 * tasks;
-    path_records(&mut out[to_paths..], paths, &c.deadline, &c.best, &c.worst);
-    let end = to_paths + 29 * paths;
-    fill(out, end);
+    let head = Head {
+        sweeps,
+        tasks: tasks.len(),
+        paths: paths.len(),
+    };
+    head.write(out);
+    records(&mut out[Head::LONG..], tasks);
+    let to_paths = Head::LONG + TaskFigures::LONG * tasks.len();
+    records(&mut out[to_paths..], paths);
+    fill(out, length_of(tasks.len(), paths.len()));
 }

@@ -1,27 +1,20 @@
--- The refusals that the tables give, 7 to 10, as tests on columns, and the lowest number where a test finds something wrong.
-use Rattle.std.specs.Prelude.{ℕ, zero, suc, ◌+◌, ◌-◌, ◌≤◌, ◌<◌, List, Bool, cond, not, ◌&&◌, ltb, eqb, length, get_or, take, drop}
+-- The refusals that the tables give, 7 to 10, as tests, and the lowest number where a test finds something wrong.
+use Rattle.std.specs.Prelude.{ℕ, zero, suc, ◌+◌, ◌-◌, ◌<◌, ◌≡◌, List, Result, Bool, cond, not, ◌&&◌, ltb, eqb, length, get_or}
 use Rattle.paper.specs.Words.{any, count}
-use Rattle.paper.specs.Limits.{most_tasks, most_sharing}
+use Rattle.paper.specs.Limits.{most_sharing}
 use Rattle.paper.specs.Fields.{Judged, passed, ◌and_then◌, unless}
-use Rattle.plan.specs.Tables.{number_of}
-
--- What a column holds below a count is the number of one of so many tasks.
-abbrev pub OfTasks : List ℕ → (count tasks : ℕ) → Type 0
-OfTasks column count tasks = (k : ℕ) → k < count → number_of column k < tasks
-
--- The part of a plan that holds path q's task numbers, by the columns of paths.
-abbrev pub part_of : (plan part steps : List ℕ) → ℕ → List ℕ
-part_of plan part steps q = take (number_of steps q) (drop (number_of part q) plan)
-
--- The parts of so many paths lie inside the plan and hold numbers of tasks.
-pub record Parts (plan part steps : List ℕ) (paths : ℕ) : Type 0 where
-  pub inside : (q : ℕ) → q < paths → number_of part q + number_of steps q ≤ length plan
-  pub counted : (q : ℕ) → q < paths → OfTasks (part_of plan part steps q) (length (part_of plan part steps q)) most_tasks
+use Rattle.plan.specs.declared.refusal.Refusal.{Refusal}
+use Rattle.plan.specs.Judged.{said}
 
 -- A refusal at the lowest number below n where something is wrong.
 unfoldable pub lowest : ℕ → (ℕ → Bool) → ℕ → Judged
 lowest refusal wrong zero = passed
 lowest refusal wrong (suc n) = lowest refusal wrong n and_then unless (not (wrong n)) refusal n
+
+-- What a judge says at the numbers below n is a refusal where something is wrong, and nothing where not.
+abbrev pub RefusesBy : (refusal : ℕ) (wrong : ℕ → Bool) (n : ℕ) → (ℕ → Result (Unit {0}) Refusal → Type 0) → Type 0
+RefusesBy refusal wrong n Says =
+    (k : ℕ) (judged : Result (Unit {0}) Refusal) → k < n → Says k judged → said judged ≡ unless (not (wrong k)) refusal k
 
 -- 7: whether task k shares its controller and its priority with a lower-numbered one.
 unfoldable pub shares : (controller priority : ℕ → ℕ) → ℕ → Bool

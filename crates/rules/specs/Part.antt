@@ -1,11 +1,16 @@
 -- The part of a plan that the question about a path hands back.
-use Rattle.std.specs.Prelude.{ℕ, ◌≡◌}
+use Rattle.std.specs.Prelude.{ℕ, ◌+◌, ◌≤◌, ◌≡◌, length, take, drop}
 use Rattle.std.proofs.Common.{sym, ◌∙◌, arith}
 use Rattle.std.specs.Borrow.{Bor}
 use Rattle.paper.specs.Bytes.{Bytes}
 use Rattle.paper.specs.Refusals.{Asked}
 use Rattle.theory.specs.Outcomes.Unique.{asked_one}
 use Rattle.plan.specs.Parts.{BeginsAt}
+
+-- So many bytes of the plan, from a place on, are the part that the question about path q hands back.
+pub record Lies (s : Bytes) (q from count : ℕ) : Type 0 where
+  pub inside : from + count ≤ length s
+  pub part : Asked s q from (take count (drop from s))
 
 -- A part is the one that path q is asked for: it begins at that place of the plan, and holds those bytes.
 pub record PartOf (s : Bor Bytes) (q : ℕ) (part : Bor Bytes) : Type 0 where

@@ -1,20 +1,22 @@
-// The one question about a well-formed plan: which part of it holds a path's task numbers.
-ghost use Rattle.paper.specs.Refusals.{WellFormed};
-ghost use Rattle.rules.specs.Part.{PartOf};
+// The one question about a plan: which part of it holds a path's task numbers.
+ghost use Rattle.rules.specs.Part.{Lies, PartOf};
 
 use crate::judging::judge;
-use plan::{Judged, part_of, path_columns};
+use plan::{Part, part_of, path_rows};
 
-// The part of a well-formed plan that holds a path's task numbers, empty where the head does not count the path.
-fn held_part(s: &[u8], path: usize) -> &[u8]
-    requires { WellFormed s.now }
-    ensures { PartOf s.entry path result }
+// Where the task numbers of a path of a well-formed plan lie; "for any other plan, or a path number the head does not count", an
+// empty part at the start.
+pub fn path_place(s: &[u8], path: usize) -> Part
+    ensures { Lies s.now path result.from result.steps }
 {
-    let paths = path_columns(s);
-    if path < paths.count {
-        part_of(s, paths.part[path], paths.steps[path])
-    } else {
-        part_of(s, 0, 0)
+    // The document wants an empty part at the start, not nothing.
+    let empty = Part { from: 0, steps: 0 };
+    if judge(s).is_err() {
+        return empty;
+    }
+    match path_rows(s).get(path) {
+        Some(row) => row.part,
+        None => empty,
     }
 }
 
@@ -23,12 +25,5 @@ fn held_part(s: &[u8], path: usize) -> &[u8]
 pub fn path_part(s: &[u8], path: usize) -> &[u8]
     ensures { PartOf s.entry path result }
 {
-    let judged = judge(s);
-    match judged {
-        Judged::Passed => held_part(s, path),
-        Judged::Refused {
-            number: _,
-            place: _,
-        } => part_of(s, 0, 0),
-    }
+    part_of(s, path_place(s, path))
 }

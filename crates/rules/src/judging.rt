@@ -4,28 +4,23 @@ ghost use Rattle.plan.specs.Tables.{ReadOff};
 ghost use Rattle.rules.specs.Judges.{Judges};
 
 use crate::refusals::{refusal_7, refusal_8, refusal_9, refusal_10};
-use plan::{Judged, Paths, Tasks, controllers_of, path_columns, read, task_columns};
+use plan::{Path, Refusal, Task, head_of, path_rows, read, task_rows};
 
-// Refusals 7 to 10 of a plan that reads, by its columns.
-pub fn ruled(s: &[u8], t: Tasks, p: Paths) -> Judged
-    requires { ReadOff s.now t p }
+// Refusals 7 to 10 of a plan that reads, by its rows.
+pub fn ruled(s: &[u8], tasks: &[Task], paths: &[Path]) -> Result<(), Refusal>
+    requires { ReadOff s.now tasks.now paths.now }
     ensures { Judges s.now (said result) }
 {
-    let controllers = controllers_of(s) as usize;
-    let tasks = t.count;
-    let seven = refusal_7(Judged::Passed, &t.controller, &t.priority, tasks);
-    let eight = refusal_8(seven, &t.fed, &t.feeder, tasks);
-    let nine = refusal_9(eight, s, &p.part, &p.steps, p.count, &t.fed, &t.feeder);
-    refusal_10(nine, &t.controller, tasks, controllers)
+    refusal_7(tasks)?;
+    refusal_8(tasks)?;
+    refusal_9(s, tasks, paths)?;
+    refusal_10(tasks, head_of(s).controllers)
 }
 
 // Refusals 1 to 10 of any bytes.
-pub fn judge(s: &[u8]) -> Judged
+pub fn judge(s: &[u8]) -> Result<(), Refusal>
     ensures { Judges s.now (said result) }
 {
-    let so = read(s);
-    match so {
-        Judged::Passed => ruled(s, task_columns(s), path_columns(s)),
-        Judged::Refused { number, place } => Judged::Refused { number, place },
-    }
+    read(s)?;
+    ruled(s, &task_rows(s), &path_rows(s))
 }

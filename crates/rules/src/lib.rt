@@ -6,5 +6,5 @@ mod faults;
 mod judging;
 mod refusals;
 
-pub use asking::path_part;
+pub use asking::{path_part, path_place};
 pub use judging::{judge, ruled};

@@ -1,106 +1,73 @@
 // The refusals that the tables give, 7 to 10, each at the lowest number where something is wrong.
-ghost use Rattle.std.specs.Prelude.{◌≤◌, ◌≡◌};
-ghost use Rattle.paper.specs.Limits.{most_controllers, most_tasks, most_paths};
-ghost use Rattle.paper.specs.Fields.{◌and_then◌};
+ghost use Rattle.std.specs.Prelude.{ℕ, ◌<◌, ◌≡◌, Bool, length, slice_index_or};
 ghost use Rattle.plan.specs.Judged.{said};
-ghost use Rattle.plan.specs.Tables.{number_of, flag_of};
 ghost use Rattle.rules.specs.Faults as Faults;
-ghost use Rattle.rules.specs.Faults.{OfTasks, part_of, Parts, lowest};
+ghost use Rattle.rules.specs.Faults.{lowest, RefusesBy};
+ghost use Rattle.rules.specs.Rows.{controller_in, priority_in, fed_in, feeder_in, FeedersIn, Parts, no_path, part_in};
 
 use crate::faults::{broken, crowded, endless, shares};
-use limits::{PATHS, TASKS};
-use plan::{Judged, part_of, unless};
+use plan::{Path, Refusal, Task, unless};
 use stream::{ControllerNo, TaskNo};
 
-// "two tasks on one controller share a priority", "lowest task sharing with a lower-numbered one".
-pub(crate) fn refusal_7<'a>(
-    so: Judged,
-    controller: &'a [usize; TASKS],
-    priority: &'a [u64; TASKS],
-    tasks: usize,
-) -> Judged
-    requires { tasks ≤ most_tasks }
-    ensures { said result ≡ said so and_then lowest 7 (
-        Faults.shares (number_of controller.now) (number_of priority.now)) tasks }
+// The first refusal that a judge gives at the numbers below n: where it refuses by a test, that of the lowest number. (A loop:
+// with `try_for_each`, tried, two goals stayed open, since the library has no law of what that gives over a range.)
+fn first<F: Fn(usize) -> Result<(), Refusal>>(n: usize, judge: F) -> Result<(), Refusal>
+    requires { (k : ℕ) → k < n → F.pre judge k }
+    ensures { (refusal : ℕ) (wrong : ℕ → Bool) → RefusesBy refusal wrong n (F.post judge)
+        → said result ≡ lowest refusal wrong n }
 {
-    let mut judged = so;
-    let mut k: usize = 0;
-    while k < tasks {
-        let wrong = shares(controller, priority, TaskNo(k));
-        let next = unless(judged, !wrong, 7, k);
-        judged = next;
-        k += 1;
+    for k in 0..n {
+        judge(k)?;
     }
-    judged
+    Ok(())
+}
+
+// "two tasks on one controller share a priority", "lowest task sharing with a lower-numbered one".
+#[tactic(auto, using(plan::proofs::Saying::said_unless))]
+pub(crate) fn refusal_7(tasks: &[Task]) -> Result<(), Refusal>
+    ensures { said result ≡ lowest 7 (
+        Faults.shares (controller_in tasks.now) (priority_in tasks.now)) (length tasks.now) }
+{
+    first(tasks.len(), |k| {
+        let task = TaskNo(k);
+        unless(!shares(tasks, task), Refusal::SharedPriority { task })
+    })
 }
 
 // "going back from feeder to feeder never reaches a 20", "lowest such task".
-pub(crate) fn refusal_8<'a>(
-    so: Judged,
-    fed: &'a [bool; TASKS],
-    feeder: &'a [usize; TASKS],
-    tasks: usize,
-) -> Judged
-    requires { (tasks ≤ most_tasks) × OfTasks feeder.now tasks tasks }
-    ensures { said result ≡ said so and_then lowest 8 (
-        Faults.endless (flag_of fed.now) (number_of feeder.now) tasks) tasks }
+#[tactic(auto, using(plan::proofs::Saying::said_unless))]
+pub(crate) fn refusal_8(tasks: &[Task]) -> Result<(), Refusal>
+    requires { FeedersIn tasks.now }
+    ensures { said result ≡ lowest 8 (
+        Faults.endless (fed_in tasks.now) (feeder_in tasks.now) (length tasks.now)) (length tasks.now) }
 {
-    let mut judged = so;
-    let mut k: usize = 0;
-    while k < tasks {
-        let wrong = endless(fed, feeder, tasks, TaskNo(k));
-        let next = unless(judged, !wrong, 8, k);
-        judged = next;
-        k += 1;
-    }
-    judged
+    first(tasks.len(), |k| {
+        let task = TaskNo(k);
+        unless(!endless(tasks, task), Refusal::NoStart { task })
+    })
 }
 
-// "a path's task is not fed by the one before it", "lowest such path".
-pub(crate) fn refusal_9<'a>(
-    so: Judged,
-    s: &'a [u8],
-    part: &'a [usize; PATHS],
-    steps: &'a [usize; PATHS],
-    paths: usize,
-    fed: &'a [bool; TASKS],
-    feeder: &'a [usize; TASKS],
-) -> Judged
-    requires { (paths ≤ most_paths) × Parts s.now part.now steps.now paths }
-    ensures { said result ≡ said so and_then lowest 9 (λ q.
-        Faults.broken (flag_of fed.now) (number_of feeder.now)
-        (part_of s.now part.now steps.now q)) paths }
+// "a path's task is not fed by the one before it", "lowest such path". (By number, as the other three: the number is the place.)
+#[tactic(auto, using(plan::proofs::Saying::said_unless))]
+pub(crate) fn refusal_9(s: &[u8], tasks: &[Task], paths: &[Path]) -> Result<(), Refusal>
+    requires { Parts s.now (length tasks.now) paths.now }
+    ensures { said result ≡ lowest 9 (λ q.
+        Faults.broken (fed_in tasks.now) (feeder_in tasks.now)
+        (part_in s.now (slice_index_or paths.now q no_path))) (length paths.now) }
 {
-    let mut judged = so;
-    let mut q: usize = 0;
-    while q < paths {
-        let path = part_of(s, part[q], steps[q]);
-        let wrong = broken(path, fed, feeder);
-        let next = unless(judged, !wrong, 9, q);
-        judged = next;
-        q += 1;
-    }
-    judged
+    first(
+        paths.len(),
+        |q| unless(!broken(tasks, s, &paths[q]), Refusal::NotFed { path: q }),
+    )
 }
 
 // "more than 16 tasks on a controller", "lowest such controller".
-pub(crate) fn refusal_10(
-    so: Judged,
-    controller: &[usize; TASKS],
-    tasks: usize,
-    controllers: usize,
-) -> Judged
-    requires { (tasks ≤ most_tasks) × (controllers ≤ most_controllers) }
-    ensures { said result ≡ said so and_then lowest 10 (
-        Faults.crowded (number_of controller.now) tasks) controllers }
+#[tactic(auto, using(plan::proofs::Saying::said_unless))]
+pub(crate) fn refusal_10(tasks: &[Task], controllers: usize) -> Result<(), Refusal>
+    ensures { said result ≡ lowest 10 (Faults.crowded (controller_in tasks.now) (length tasks.now)) controllers }
 {
-    let mut judged = so;
-    let mut c: usize = 0;
-    while c < controllers {
-        let wrong = crowded(controller, tasks, ControllerNo(c));
-        let next = unless(judged, !wrong, 10, c);
-        judged = next;
-        c += 1;
-    }
-    judged
+    first(controllers, |c| {
+        let controller = ControllerNo(c);
+        unless(!crowded(tasks, controller), Refusal::Crowded { controller })
+    })
 }

@@ -2,19 +2,19 @@
 ghost use Rattle.std.specs.Prelude.{◌≡◌, ◌-◌};
 
 // A tick, or a length of time: "Time is whole ticks."
-#[derive(Clone, Copy)]
+#[derive(Clone, Copy, PartialEq, Eq, PartialOrd, Ord, Default)]
 pub struct Ticks(pub u64);
 
 // A count of events, or of the jobs that events activate.
-#[derive(Clone, Copy)]
+#[derive(Clone, Copy, PartialEq, Eq, PartialOrd, Ord, Default)]
 pub struct Events(pub u64);
 
 // The number of a task, counted from 0.
-#[derive(Clone, Copy)]
+#[derive(Clone, Copy, PartialEq, Eq, PartialOrd, Ord, Default)]
 pub struct TaskNo(pub usize);
 
 // The number of a controller, counted from 0.
-#[derive(Clone, Copy)]
+#[derive(Clone, Copy, PartialEq, Eq, PartialOrd, Ord, Default)]
 pub struct ControllerNo(pub usize);
 
 impl Ticks {
@@ -22,10 +22,6 @@ impl Ticks {
     pub fn minus(self, other: Ticks) -> Ticks
         ensures { result.0 ≡ self.0 - other.0 }
     {
-        if self.0 < other.0 {
-            Ticks(0)
-        } else {
-            Ticks(self.0 - other.0)
-        }
+        Ticks(self.0.saturating_sub(other.0))
     }
 }

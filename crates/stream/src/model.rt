@@ -6,7 +6,7 @@ ghost use Rattle.stream.specs.Model.{model_of};
 use crate::kinds::{Events, Ticks};
 
 // An event model: the period and the jitter of a stream.
-#[derive(Clone, Copy)]
+#[derive(Clone, Copy, PartialEq, Eq, Default)]
 pub struct EventModel {
     pub period: Ticks,
     pub jitter: Ticks,
@@ -19,10 +19,7 @@ impl EventModel {
         requires { (n.0 < 2 ^ 32) × (self.period.0 < 2 ^ 32) }
         ensures { result.0 ≡ d (model_of self) n.0 }
     {
-        if n.0 == 0 {
-            return Ticks(0);
-        }
-        let span = (n.0 - 1) * self.period.0;
+        let span = n.0.saturating_sub(1) * self.period.0;
         Ticks(span).minus(self.jitter)
     }
 
@@ -35,6 +32,7 @@ impl EventModel {
         if t.0 == 0 {
             return Events(0);
         }
+        // As the definition says it: with `div_ceil`, three instructions more, docs/SPEED.md's largest plan takes more than second/.
         Events((t.0 + self.jitter.0 + (self.period.0 - 1)) / self.period.0)
     }
 
@@ -43,10 +41,9 @@ impl EventModel {
         requires { self.jitter.0 + by.0 < 2 ^ 64 }
         ensures { model_of result ≡ delayed (model_of self) by.0 }
     {
-        let period = self.period;
         EventModel {
-            period,
             jitter: Ticks(self.jitter.0 + by.0),
+            ..self
         }
     }
 }

@@ -1,27 +1,23 @@
 -- Gathering a task's rivals one by one: what they interfere adds up, and there is room for all of them.
-use Prim.Native.Nat.{ℕ, suc, ◌+◌, ◌*◌, ◌≤◌, ◌<◌, ◌^◌}
-use native.Mathlib.Nat.{le_refl, le_trans}
-use native.Mathlib.Numerals.{add-one}
-use native.Mathlib.Omega.{arith}
-use mathlib.Core.Path.{◌≡◌, refl, sym, ◌∙◌, ap₂}
-use mathlib.Core.Bool.{Bool, true, false, cond, ◌&&◌}
-use mathlib.Core.List.{List}
-use lib.Dec.{eqb}
-use lib.ListN.{length, get_or, set}
-use lib.Seq.{get_or-set_same, get_or-set_other}
-use borrow.Author.Tests.{eq-eqb, le-ltb}
+use Rattle.std.proofs.Common.{ℕ, suc, ◌+◌, ◌*◌, ◌≤◌, ◌<◌, ◌≡◌, refl, sym, ap, ◌∙◌, arith, add-one, le_refl, le_trans, eq-eqb, le-ltb}
+use Rattle.std.proofs.Common.{Bool, true, false, cond, ◌&&◌, eqb, ltb, List, [], ◌∷◌, ◌++◌, length, get_or}
+use Rattle.std.proofs.lemmas.List.Sums.{sum_by_push}
+use Rattle.std.proofs.lemmas.List.{length_push}
 use Rattle.paper.specs.Words.{sum, count}
-use Rattle.paper.specs.Limits.{most_sharing, most_cost, most_ticks}
+use Rattle.paper.specs.Limits.{most_sharing}
 use Rattle.paper.specs.Tables.{Plan}
-use Rattle.paper.specs.Streams.{Stream, most_events}
+use Rattle.paper.specs.Streams.{most_events}
 use Rattle.paper.specs.Windows.{Inputs, rival}
 use Rattle.theory.specs.Plans.Sound.{Ranged}
-use Rattle.theory.specs.Numbers.Sums.{rises, sum_ext, sum_more}
-use Rattle.bound.specs.Setting.{columns, work_of, interference_of}
-use Rattle.bound.specs.Ranges.{Recurring, RivalsInRange}
-use Rattle.bound.specs.declared.setting.Rivals.{Rivals}
-use Rattle.sweep.specs.Columns.{Sharing, rival_in, Streaming}
-use Rattle.sweep.proofs.Fill.{put_every}
+use Rattle.theory.specs.Numbers.Sums.{rises, sum_more}
+use Rattle.stream.specs.Model.{model_of}
+use Rattle.stream.specs.declared.kinds.Ticks.{Ticks}
+use Rattle.stream.specs.declared.model.EventModel.{EventModel}
+use Rattle.bound.specs.declared.setting.Rival.{Rival}
+use Rattle.bound.specs.Setting.{work_of, interference_of}
+use Rattle.plan.specs.declared.tasks.Task.{Task}
+use Rattle.sweep.specs.Planned.{Planned, Streaming}
+use Rattle.sweep.proofs.Rows.{row_is, stream_is}
 
 -- A rival is one of those on the controller.
 rival_shares : (a b : Bool) → cond (a && b) 1 0 ≤ cond a 1 0
@@ -39,139 +35,67 @@ rivals_few p k ranged h =
     le_trans (sum_more p.tasks _ _ (λ j l. rival_shares (eqb (p.task j).controller c) _) k h own)
     (ranged.sharing c (ranged.controller k h))
 
--- What a test of the columns says of task j, that it is a rival of task k, is so.
-pub rival_told : {p : Plan} {controller priority most : List ℕ} {r b : Bool} → Sharing p controller priority most → (k j : ℕ)
-    → k < p.tasks → j < p.tasks → r ≡ rival_in controller priority k j → r ≡ b → rival p k j ≡ b
-unfolding rival
-rival_told shares k j h l e told =
-    rw (← shares.controller_of j l, ← shares.controller_of k h, ← shares.priority_of j l, ← shares.priority_of k h)
-    (sym e ∙ told)
-
--- One number more is counted exactly when it passes the test.
+-- A task more counts if it passes the test.
 count_next : (f : ℕ → Bool) (n : ℕ) → count (suc n) f ≡ count n f + cond (f n) 1 0
 unfolding count sum
 count_next f n = refl
 
--- Up to a larger number as many are counted or more.
+-- Among more tasks as many pass a test or more.
 count_grows : (f : ℕ → Bool) (m n : ℕ) → m ≤ n → count m f ≤ count n f
 count_grows f = rises (λ n. count n f) (λ n. omega (arith, count_next f n))
 
--- The columns have room for as many rivals as a task can have.
-pub record Room (r : Rivals) : Type 0 where
-  pub periods : length r.period ≡ most_sharing
-  pub jitters : length r.jitter ≡ most_sharing
-  pub costs : length r.cost ≡ most_sharing
+-- What the rows tell of a rival is what the plan says.
+pub rival_told : {p : Plan} {tasks : List Task} {told b : Bool} (k j : ℕ) (d e : Task) → Planned p tasks → k < p.tasks → j < p.tasks
+    → told
+    ≡ (eqb (get_or tasks j d).controller.0 (get_or tasks k e).controller.0
+    && ltb (get_or tasks j d).priority (get_or tasks k e).priority)
+    → told ≡ b → rival p k j ≡ b
+unfolding rival
+rival_told k j d e so h l told is = sym (rw (row_is so j d l, row_is so k e h) at told) ∙ is
 
 -- Of the tasks below j, task k's rivals are gathered.
-pub record Upto (p : Plan) (S : Inputs) (k j : ℕ) (r : Rivals) : Type 0 where
-  pub counts : r.count ≡ count j (rival p k)
-  pub interfere : (t : ℕ) → interference_of r t ≡ sum j (λ i. cond (rival p k i) (most_events (S i) t * (p.task i).C+) 0)
-  pub recurring : Recurring r
-  pub in_range : RivalsInRange r
+pub record Gathered (p : Plan) (S : Inputs) (k j : ℕ) (rivals : List Rival) : Type 0 where
+  pub counts : length rivals ≡ count j (rival p k)
+  pub interfere : (t : ℕ) → interference_of rivals t ≡ sum j (λ i. cond (rival p k i) (most_events (S i) t * (p.task i).C+) 0)
 
--- One rival more.
-abbrev pub put : Rivals → Stream → ℕ → Rivals
-put r M C =
-    columns (r.count + 1) (set r.period r.count M.P) (set r.jitter r.count M.J) (set r.cost r.count C)
+-- Of no tasks no rivals are gathered.
+pub gathered_none : {p : Plan} {S : Inputs} {k : ℕ} → Gathered p S k 0 []
+unfolding count sum interference_of
+gathered_none = record { counts = refl; interfere = λ t. refl }
 
-module _ (r : Rivals) (M : Stream) (C : ℕ) (few : r.count < most_sharing) (room : Room r) where
-  -- One rival more adds its most events times its cost.
-  put_interferes : (t : ℕ) → interference_of (put r M C) t ≡ interference_of r t + most_events M t * C
-  unfolding sum interference_of
-  put_interferes t = rw (add-one r.count) (ap₂ ◌+◌ (sum_ext r.count _ _ before) last)
-    where
-      -- What the rivals before it add is as it was.
-      before : (i : ℕ) → i < r.count → work_of (put r M C) t i ≡ work_of r t i
-      before i l =
-          let other : i ≡ r.count → ⊥ = λ e. omega arith in
-          rw (
-            get_or-set_other r.period r.count i M.P 0 other,
-            get_or-set_other r.jitter r.count i M.J 0 other,
-            get_or-set_other r.cost r.count i C 0 other,
-          )
-
-      -- The last adds its own.
-      last : work_of (put r M C) t r.count ≡ most_events M t * C
-      last =
-          rw (
-            get_or-set_same r.period r.count M.P 0 (omega (arith, room.periods)),
-            get_or-set_same r.jitter r.count M.J 0 (omega (arith, room.jitters)),
-            get_or-set_same r.cost r.count C 0 (omega (arith, room.costs)),
-          )
-
-module _ (p : Plan) (S : Inputs) (k : ℕ) where
-  -- Of no tasks no rivals are gathered.
-  pub upto_none : (period jitter cost : List ℕ) → Upto p S k 0 (columns 0 period jitter cost)
-  unfolding count sum interference_of
-  upto_none period jitter cost =
+module _ {p : Plan} {S : Inputs} {tasks : List Task} {inputs : List EventModel} (so : Streaming p S tasks inputs) {k j : ℕ}
+    {rivals : List Rival} (far : Gathered p S k j rivals) where
+  -- A task that is no rival adds nothing.
+  pub gathered_skip : rival p k j ≡ false → Gathered p S k (j + 1) rivals
+  unfolding sum
+  gathered_skip e =
       record {
-        counts = refl;
-        interfere = λ t. refl;
-        recurring = record { periods = λ i l. absurd (omega arith) };
-        in_range =
-            record {
-              count = omega arith;
-              periods = λ i l. absurd (omega arith);
-              jitters = λ i l. absurd (omega arith);
-              costs = λ i l. absurd (omega arith);
-            };
+        counts = rw (add-one j, count_next (rival p k) j, e) (omega (arith, far.counts));
+        interfere = λ t. rw (add-one j, e) (omega (arith, far.interfere t));
       }
 
-  module _ {r : Rivals} (j : ℕ) (so : Upto p S k j r) where
-    -- A task that is no rival adds nothing.
-    pub upto_skip : rival p k j ≡ false → Upto p S k (j + 1) r
-    unfolding sum
-    upto_skip e =
-        record {
-          counts = rw (add-one j, count_next (rival p k) j, e) (omega (arith, so.counts));
-          interfere = λ t. rw (add-one j, e) (omega (arith, so.interfere t));
-          recurring = so.recurring;
-          in_range = so.in_range;
-        }
-
+  module _ (h : k < p.tasks) (l : j < p.tasks) (e : rival p k j ≡ true) where
     -- There is room for a rival.
-    pub upto_room : Ranged p → k < p.tasks → j < p.tasks → rival p k j ≡ true → r.count + 1 < most_sharing
-    upto_room ranged h l e =
+    pub gathered_room : length rivals < most_sharing
+    gathered_room =
         omega (
           arith,
-          so.counts,
+          far.counts,
           rw e at (count_next (rival p k) j),
           count_grows (rival p k) (suc j) p.tasks l,
-          rivals_few p k ranged h,
+          rivals_few p k so.planned.ranged h,
         )
 
     -- A rival adds what it interferes.
-    pub upto_put : {controller priority most period jitter : List ℕ} → Sharing p controller priority most
-        → Streaming p S period jitter → k < p.tasks → j < p.tasks → rival p k j ≡ true → Room r
-        → Upto p S k (j + 1) (put r (record { P = get_or period j 0; J = get_or jitter j 0 }) (get_or most j 0))
-    unfolding sum
-    upto_put {most = most} {period = period} {jitter = jitter} shares streams h l e room =
-        let n = r.count in
-        let M : Stream = record { P = get_or period j 0; J = get_or jitter j 0 } in
-        let few : n + 1 < most_sharing = upto_room shares.ranged h l e in
-        let stream : M ≡ S j = λ i. record { P = streams.period_is j l i; J = streams.jitter_is j l i } in
+    pub gathered_put : (d : EventModel) (c : Task) (r : Rival) → r.input ≡ get_or inputs j d → r.cost ≡ (get_or tasks j c).most
+        → Gathered p S k (j + 1) (rivals ++ r ∷ [])
+    unfolding sum interference_of
+    gathered_put d c r input cost =
+        let stream : model_of r.input ≡ S j = ap (λ (m : EventModel). model_of m) (input ∙ stream_is so j d l) in
+        let most : r.cost.0 ≡ (p.task j).C+ =
+        ap (λ (n : Ticks). n.0) cost ∙ ap (λ (t : Task). t.most.0) (row_is so.planned j c l) in
+        let work : (t : ℕ) → work_of t r ≡ most_events (S j) t * (p.task j).C+ = λ t. rw (stream, most) in
         record {
-          counts = rw (add-one j, count_next (rival p k) j, e) (omega (arith, so.counts));
-          interfere = λ t.
-              rw (put_interferes r M (get_or most j 0) (omega arith) room t, add-one j, e, ← stream, ← shares.most_of j l)
-              (omega (arith, so.interfere t));
-          recurring =
-              record {
-                periods =
-                    put_every (λ i x. 1 ≤ x) r.period n M.P (omega (arith, room.periods)) so.recurring.periods
-                    (omega (arith, streams.period_is j l, streams.some_period j l));
-              };
-          in_range =
-              record {
-                count = omega arith;
-                periods =
-                    put_every (λ i x. x ≤ most_ticks) r.period n M.P (omega (arith, room.periods)) so.in_range.periods
-                    (omega (arith, streams.period_is j l, streams.short_period j l));
-                jitters =
-                    put_every (λ i x. x < 2 ^ 37) r.jitter n M.J (omega (arith, room.jitters)) so.in_range.jitters
-                    (omega (arith, streams.jitter_is j l, streams.small_jitter j l));
-                costs =
-                    put_every (λ i x. x ≤ most_cost) r.cost n _ (omega (arith, room.costs)) so.in_range.costs
-                    (omega (arith, shares.most_of j l, shares.ranged.cost j l));
-              };
+          counts = rw (add-one j, count_next (rival p k) j, e, length_push) (omega (arith, far.counts));
+          interfere = λ t. rw (add-one j, e, sum_by_push (work_of t) rivals r) (omega (arith, far.interfere t, work t));
         }

@@ -1,7 +1,5 @@
--- Input jitters along a chain: from feeder to task, and how large they can be.
-use Prim.Native.Nat.{ℕ, zero, suc, ◌+◌, ◌-◌, ◌*◌, ◌≤◌, ◌<◌, ◌^◌}
-use native.Mathlib.Omega.{arith}
-use mathlib.Core.Path.{◌≡◌, refl}
+-- Input streams along a chain: from feeder to task, and how large their jitters can be.
+use Rattle.std.proofs.Common.{ℕ, zero, suc, ◌+◌, ◌-◌, ◌*◌, ◌≤◌, ◌<◌, ◌^◌, ◌≡◌, refl, ap, arith}
 use Rattle.paper.specs.Limits.{most_ticks}
 use Rattle.paper.specs.Tables.{Source, outside, fed, Plan}
 use Rattle.paper.specs.Refusals.{back, FromOutside}
@@ -13,18 +11,23 @@ use Rattle.theory.specs.Plans.Chains.{back_fed}
 use Rattle.theory.specs.Plans.Inputs.{inputs_law}
 
 module _ {p : Plan} (sound : Sound p) (R : Bounds) where
-  -- The input jitter of a fed task is its feeder's, and R+ - R- of its feeder.
-  pub jitter_fed : (k j : ℕ) → k < p.tasks → (p.task k).source ≡ fed j
-      → (inputs p R k).J ≡ (inputs p R j).J + (R j - (p.task j).C-)
-  unfolding stream_of output delayed
-  jitter_fed k j h e = rw (inputs_law sound R k h, e)
+  -- The input stream of a fed task is its feeder's, delayed by R+ - R- of its feeder.
+  pub stream_fed : (k j : ℕ) → k < p.tasks → (p.task k).source ≡ fed j
+      → inputs p R k ≡ delayed (inputs p R j) (R j - (p.task j).C-)
+  unfolding stream_of output
+  stream_fed k j h e = rw (inputs_law sound R k h, e) refl
 
-  -- The input jitter of a task fed from outside is that of its events.
-  pub jitter_outside : (k : ℕ) (M : Stream) → k < p.tasks → (p.task k).source ≡ outside M → (inputs p R k).J ≡ M.J
+  -- The input stream of a task fed from outside is that of its events.
+  pub stream_outside : (k : ℕ) (M : Stream) → k < p.tasks → (p.task k).source ≡ outside M → inputs p R k ≡ M
   unfolding stream_of
-  jitter_outside k M h e = rw (inputs_law sound R k h, e)
+  stream_outside k M h e = rw (inputs_law sound R k h, e) refl
 
-module _ {p : Plan} (sound : Sound p) (ranged : Ranged p) (R : Bounds) (capped : (k : ℕ) → R k ≤ most_ticks) where
+  -- So are their jitters.
+  jitter_fed : (k j : ℕ) → k < p.tasks → (p.task k).source ≡ fed j → (inputs p R k).J ≡ (inputs p R j).J + (R j - (p.task j).C-)
+  unfolding delayed
+  jitter_fed k j h e = ap (λ (M : Stream). M.J) (stream_fed k j h e)
+
+module _ {p : Plan} (sound : Sound p) (ranged : Ranged p) (R : Bounds) (capped : (k : ℕ) → k < p.tasks → R k ≤ most_ticks) where
   -- From a feeder's input jitter to a fed task's it is at most the limit.
   jitter_step : (n k : ℕ) → k < p.tasks → ((j : ℕ) → (p.task k).source ≡ fed j → (inputs p R j).J ≤ n)
       → (inputs p R k).J ≤ n + most_ticks
@@ -32,8 +35,8 @@ module _ {p : Plan} (sound : Sound p) (ranged : Ranged p) (R : Bounds) (capped :
     where
       -- From each kind of source.
       by : (s : Source) → (p.task k).source ≡ s → (inputs p R k).J ≤ n + most_ticks
-      by (outside M) e = omega (arith, jitter_outside sound R k M h e, ranged.jitter k M h e)
-      by (fed j) e = omega (arith, jitter_fed sound R k j h e, before j e, capped j)
+      by (outside M) e = omega (arith, ap (λ (S : Stream). S.J) (stream_outside sound R k M h e), ranged.jitter k M h e)
+      by (fed j) e = omega (arith, jitter_fed sound R k j h e, before j e, capped j (sound.feeders k j h e))
 
   -- Along a chain that starts m steps back it is at most that for each step.
   jitter_along : (m k : ℕ) → k < p.tasks → FromOutside (p.task (back p m k)).source → (inputs p R k).J ≤ suc m * most_ticks

@@ -1,8 +1,9 @@
--- Laws that several functions' proofs cite.
+-- Laws that several functions' proofs cite; the public one serves the crates above.
+mod Alike
 mod Back
 mod Delays
-mod Fill
 mod Gather
 mod Jitter
-mod Lent
+pub mod Rows
 mod Turn
+mod Worked

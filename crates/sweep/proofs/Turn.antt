@@ -1,16 +1,14 @@
--- The sweeps over a table, turn by turn: what is reached so far, what one turn works out, and what it leads to.
-use Prim.Native.Nat.{ℕ, ◌+◌, ◌*◌, ◌≤◌, ◌<◌}
-use native.Mathlib.Numerals.{add-one}
-use native.Mathlib.Decide.{dec_lt}
-use native.Mathlib.Omega.{arith}
-use mathlib.Core.Path.{◌≡◌, refl, sym, subst}
-use mathlib.Core.List.{List}
+-- The sweeps over a plan's tasks, turn by turn: what is reached so far, and what one sweep more leads to.
+use Rattle.std.proofs.Common.{ℕ, ◌+◌, ◌*◌, ◌≤◌, ◌<◌, ◌≡◌, refl, sym, ap, subst, ◌∙◌, add-one, arith, List, get_or, length}
+use Rattle.std.proofs.Common.{ext_get_or}
+use Rattle.paper.specs.Words.{IsLeast}
 use Rattle.paper.specs.Limits.{most_ticks}
 use Rattle.paper.specs.Tables.{Plan}
-use Rattle.paper.specs.Windows.{Inputs, Bounded, setting}
+use Rattle.paper.specs.Windows.{Bounded, setting}
 use Rattle.paper.specs.Sets.{inputs}
-use Rattle.paper.specs.Sweeps.{Sweep, Settles, Leaving}
-use Rattle.theory.specs.Numbers.Least.{least_of}
+use Rattle.paper.specs.Sweeps.{Sweep, Settles, Leaves, Leaving}
+use Rattle.paper.specs.Report.{Figures}
+use Rattle.theory.specs.Plans.Inputs.{period_law, period_some, period_most}
 use Rattle.theory.specs.Task.Preemptive.{bounded_most}
 use Rattle.theory.specs.Sweeps.Climb.{Same}
 use Rattle.theory.specs.Sweeps.Climbs.{proper, climbing}
@@ -24,128 +22,119 @@ use Rattle.theory.specs.Sweeps.Demand2.{
   settled_least,
   sweeps_few,
 }
-use Rattle.plan.specs.declared.tasks.Tasks.{Tasks}
-use Rattle.sweep.specs.declared.once.Swept.{Swept}
-use Rattle.sweep.specs.declared.all.Ended.TheVariants as ended
-use Rattle.sweep.specs.Columns.{per_task, Chained, Jittered, Sweeping, bounds_of, Capped, ZeroFrom}
-use Rattle.sweep.specs.Planned.{Prepared}
-use Rattle.sweep.specs.Works.{Works}
-use Rattle.sweep.specs.Ends.{Settled}
-use Rattle.sweep.proofs.Fill.{fill_column}
-use Rattle.sweep.proofs.Lent.{counted, chained, jittered, sharing, start_bounds, start_capped, sweeping}
+use Rattle.stream.specs.declared.model.EventModel.{EventModel}
+use Rattle.plan.specs.declared.tasks.Task.{Task}
+use Rattle.plan.proofs.Rows.{length_tabulate, tabulate_at}
+use Rattle.sweep.specs.declared.once.Figure.{Figure}
+use Rattle.sweep.specs.Rows.{per_task, stream_row, figure, no_figure, first_figure, bounds_of}
+use Rattle.sweep.specs.Planned.{Planned, Bounding, Streaming}
+use Rattle.sweep.specs.Works.{Upto}
+use Rattle.sweep.specs.Ends.{figure_of, Settled}
+use Rattle.sweep.proofs.Jitter.{jitter_small}
 
--- After m sweeps, each of which changed something, the set is reached, 0 past the tasks, whichever plan has the table.
-pub record SoFar (t : Tasks) (period set : List ℕ) (m : ℕ) : Type 0 where
-  pub capped : Capped set
-  pub reached : (p : Plan) → Prepared p t period → Reached p m (bounds_of set)
-  pub bounds : (p : Plan) → Prepared p t period → set ≡ per_task p (bounds_of set)
+-- The input streams that a set gives have numbers in range.
+pub streaming : {p : Plan} {tasks : List Task} {set : List Figure} {streams : List EventModel} → Bounding p tasks set
+    → streams ≡ per_task p (stream_row (inputs p (bounds_of set))) → Streaming p (inputs p (bounds_of set)) tasks streams
+streaming {set = set} b e =
+    let so = b.planned in
+    let R = bounds_of set in
+    record {
+      planned = so;
+      streams = e;
+      some_period = λ k h. rw (period_law so.sound R k h) (period_some so.sound k h);
+      short_period = λ k h. rw (period_law so.sound R k h) (period_most so.sound so.ranged k h);
+      small_jitter = jitter_small so.sound so.ranged R b.capped;
+    }
+
+-- After m sweeps of a plan, each of which changed something, the set is reached.
+pub record SoFar (p : Plan) (tasks : List Task) (set : List Figure) (m : ℕ) : Type 0 where
+  pub bounding : Bounding p tasks set
+  pub reached : Reached p m (bounds_of set)
 
 -- Before the first sweep every R+ is C+.
-pub so_far_start : {t : Tasks} {period : List ℕ} → (p : Plan) × Prepared p t period → SoFar t period t.most 0
-so_far_start {t} (p, so) =
+pub so_far_start : {p : Plan} {tasks : List Task} {set : List Figure} → Planned p tasks → set ≡ per_task p (first_figure p)
+    → SoFar p tasks set 0
+so_far_start {p} {set = set} so e =
+    let own : Same p.tasks (bounds_of set) (λ k. (p.task k).C+) =
+    λ k h. ap (λ (rows : List Figure). bounds_of rows k) e ∙ ap (λ (f : Figure). f.bound.0) (tabulate_at _ _ k _ h) in
     record {
-      capped = start_capped so.planned;
-      reached = λ p so. reached_start p (bounds_of t.most) (sharing so.planned).most_of;
-      bounds = λ p so. start_bounds so.planned;
+      bounding =
+          record {
+            planned = so;
+            count = ap length e ∙ length_tabulate _ _;
+            capped = λ k h. omega (arith, own k h, so.ranged.cost k h);
+          };
+      reached = reached_start p (bounds_of set) own;
     }
 
--- No more sweeps are done than the bounds can grow by.
-pub so_far_few : {t : Tasks} {period set : List ℕ} {m : ℕ} → (p : Plan) × Prepared p t period → SoFar t period set m
-    → m ≤ t.count * most_ticks
-so_far_few (p, so) far =
-    rw (counted so.planned) (reached_most p (climbing p so.planned.sound) (far.reached p so))
+-- The figures of a report in which the sweeps settle in sweep number m.
+abbrev report_of : (m : ℕ) (set new : List Figure) → Figures
+report_of m set new = record { sweeps = m; R = bounds_of set; jobs = λ k. (get_or new k no_figure).jobs.0 }
 
--- In the next turn the input jitters are worked out from the set, and a sweep has worked out r from them.
-pub record Turn (t : Tasks) (period set : List ℕ) (m : ℕ) (input : List ℕ) (r : Swept) : Type 0 where
-  pub so_far : SoFar t period set m
-  pub jitters : (p : Plan) → Prepared p t period → input ≡ per_task p (λ k. (inputs p (bounds_of set) k).J)
-  pub works : (p : Plan) → Prepared p t period → Works p (inputs p (bounds_of set)) r
+module _ {p : Plan} {tasks : List Task} {set : List Figure} {m : ℕ} (far : SoFar p tasks set m) where
+  -- No more sweeps are done than the bounds can grow by.
+  pub so_far_few : m ≤ p.tasks * most_ticks
+  so_far_few = reached_most p (climbing p far.bounding.planned.sound) far.reached
 
--- A turn is done where the input jitters and the sweep meet their contracts.
-pub turned : {t : Tasks} {period set input : List ℕ} {m : ℕ} {r : Swept} → SoFar t period set m
-    → ((p : Plan) → Chained p t.fed t.feeder → Jittered p t.least period t.jitter → t.count ≡ p.tasks
-    → input ≡ per_task p (λ k. (inputs p (bounds_of set) k).J))
-    → ((p : Plan) (S : Inputs)
-    → Sweeping p S t.count t.controller t.priority t.least t.most period input → Works p S r)
-    → Turn t period set m input r
-turned {t} {period} {set} {input} so_far jitters sweep =
-    let given : (p : Plan) → Prepared p t period → input ≡ per_task p (λ k. (inputs p (bounds_of set) k).J) =
-    λ p so. jitters p (chained so.planned) (jittered so.planned so.periods) (counted so.planned) in
-    record {
-      so_far = so_far;
-      jitters = given;
-      works = λ p so. sweep p (inputs p (bounds_of set)) (sweeping so.planned so.periods so_far.capped (given p so));
-    }
-
-module _ {t : Tasks} {period set input : List ℕ} {m : ℕ} {r : Swept} (turn : Turn t period set m input r) where
   -- Where a task leaves the limits, the sweep is the first in which one does, and the task the lowest.
-  pub turn_leaves : r.end.0 < t.count → (p : Plan) → Prepared p t period → Leaving p (m + 1) r.end.0
-  turn_leaves h p so =
-      let works = turn.works p so in
-      rw (add-one m)
-      (reached_leaves p (climbing p so.planned.sound) (turn.so_far.reached p so)
-      (least_of (works.leaves (rw (counted so.planned) at h)) (λ k l o. o.outside _ _ (works.bounded k l))))
+  pub turn_leaves : {k : ℕ} → IsLeast (Leaves p (inputs p (bounds_of set))) k → Leaving p (m + 1) k
+  turn_leaves o = rw (add-one m) (reached_leaves p (climbing p far.bounding.planned.sound) far.reached o)
 
-  -- No bound that is worked out is above the limit.
-  turn_capped : (p : Plan) × Prepared p t period → Capped r.bound
-  turn_capped (p, so) k =
-      let works = turn.works p so in
-      elim (dec_lt k r.end.0) [
-        | yes l ↦
-            bounded_most (proper p so.planned.sound (inputs p (bounds_of set)) k (omega (arith, works.few))) (works.bounded k l)
-        | no l ↦ omega (arith, works.bounds.zeros k (omega arith))
-      ]
+  module _ {new : List Figure} (upto : Upto p (inputs p (bounds_of set)) p.tasks new) where
+    -- Where none does, the sweep works out a set from the last.
+    turn_sweep : Sweep p (bounds_of set) (bounds_of new)
+    turn_sweep k h = ((get_or new k no_figure).jobs.0, (upto.each k h).bounded)
 
-  module _ (all : t.count ≤ r.end.0) where
-    -- A column that is filled as far as the sweep went is that of all tasks.
-    turn_column : (p : Plan) → Prepared p t period → {xs : List ℕ} → ZeroFrom r.end.0 xs → xs ≡ per_task p (bounds_of xs)
-    turn_column p so zeros =
-        let last : r.end.0 ≡ p.tasks = omega (arith, (turn.works p so).few, counted so.planned) in
-        rw last at (fill_column zeros _ (λ k h. refl))
-
-    -- Where no task leaves the limits, the sweep works out a set from the last.
-    turn_sweep : (p : Plan) → Prepared p t period → Sweep p (bounds_of set) (bounds_of r.bound)
-    turn_sweep p so k h = (bounds_of r.jobs k, (turn.works p so).bounded k (omega (arith, counted so.planned)))
-
-    -- If it changes something, one sweep more is done.
-    pub turn_next : (p : Plan) × Prepared p t period → (Same t.count (bounds_of set) (bounds_of r.bound) → ⊥)
-        → SoFar t period r.bound (m + 1)
-    turn_next some differ =
+    -- If it changes something, by the sets as they are lent, one sweep more is done.
+    pub turn_next : {a b : List Figure} → a ≡ set → b ≡ new → (Same (length a) (bounds_of a) (bounds_of b) → ⊥)
+        → SoFar p tasks new (m + 1)
+    turn_next e f differ =
+        let so = far.bounding.planned in
         record {
-          capped = turn_capped some;
-          reached = λ p so.
+          bounding =
+              record {
+                planned = so;
+                count = upto.count;
+                capped = λ k h.
+                    bounded_most (proper p so.sound (inputs p (bounds_of set)) k h) (upto.each k h).bounded;
+              };
+          reached =
               rw (add-one m)
-              (reached_next p (climbing p so.planned.sound) (bounds_of r.bound) (turn.so_far.reached p so)
-              (turn_sweep p so) (λ same. differ (λ k h. same k (rw (counted so.planned) at h))));
-          bounds = λ p so. turn_column p so (turn.works p so).bounds;
+              (reached_next p (climbing p so.sound) (bounds_of new) far.reached turn_sweep (rw (e, f, far.bounding.count) at differ));
         }
 
-    module _ (same : Same t.count (bounds_of set) (bounds_of r.bound)) (p : Plan) (so : Prepared p t period) where
+    module _ (same : Same p.tasks (bounds_of set) (bounds_of new)) where
       -- If it changes nothing, the sweeps settle,
       turn_settles : Settles p (m + 1) (bounds_of set)
-      turn_settles =
-          rw (add-one m)
-          (reached_settles p (bounds_of r.bound) (turn.so_far.reached p so) (turn_sweep p so)
-          (λ k h. same k (rw (counted so.planned) h)))
+      turn_settles = rw (add-one m) (reached_settles p (bounds_of new) far.reached turn_sweep same)
 
-      -- and the set, the input jitters and the jobs looked at are what is reported.
-      pub turn_settled : Settled p (m + 1) (record { ended = ended.Settled (m + 1); bound = set; input = input; jobs = r.jobs })
-      turn_settled =
-          let laws = climbing p so.planned.sound in
+      -- the figures worked out are those of the report,
+      turn_rows : new ≡ per_task p (figure_of p (report_of (m + 1) set new))
+      turn_rows =
+          ext_get_or no_figure new _ (upto.count ∙ sym (length_tabulate _ _)) λ k l.
+          let h : k < p.tasks = omega (arith, upto.count) in
+          (λ i. figure (sym (same k h) i) ((upto.each k h).input i) (get_or new k no_figure).jobs.0)
+          ∙ sym (tabulate_at p.tasks (figure_of p (report_of (m + 1) set new)) k no_figure h)
+
+      -- and they are what is reported.
+      turn_report : Settled p (m + 1) new
+      turn_report =
+          let laws = climbing p far.bounding.planned.sound in
           record {
-            figures = record { sweeps = m + 1; R = bounds_of set; jobs = bounds_of r.jobs };
+            figures = report_of (m + 1) set new;
             reported =
                 record {
                   least = settled_least p laws turn_settles;
                   settles = turn_settles;
                   bounded = λ k h.
-                      let l : k < t.count = rw (counted so.planned) h in
-                      subst (λ b. Bounded (setting p (inputs p (bounds_of set)) k) b (bounds_of r.jobs k)) (sym (same k l))
-                      ((turn.works p so).bounded k (omega arith));
+                      subst (λ b. Bounded (setting p (inputs p (bounds_of set)) k) b (get_or new k no_figure).jobs.0)
+                      (sym (same k h)) (upto.each k h).bounded;
                 };
             sweep = refl;
             few = sweeps_few p laws turn_settles;
-            bounds = turn.so_far.bounds p so;
-            inputs = turn.jitters p so;
-            jobs = turn_column p so (turn.works p so).jobs;
+            rows = turn_rows;
           }
+
+    -- If it changes nothing, by the sets as they are lent, the sweeps settle.
+    pub turn_settled : {a b : List Figure} → a ≡ set → b ≡ new → Same (length a) (bounds_of a) (bounds_of b) → Settled p (m + 1) new
+    turn_settled e f same = turn_report (rw (e, f, far.bounding.count) at same)

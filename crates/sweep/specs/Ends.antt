@@ -1,41 +1,34 @@
 -- How the sweeps end, and what they hand back.
-use Rattle.std.specs.Prelude.{ℕ, ◌+◌, ◌-◌, ◌≤◌, ◌≡◌, replicate}
+use Rattle.std.specs.Prelude.{ℕ, ◌+◌, ◌-◌, ◌≤◌, ◌≡◌, List, [], Result, Ok, Err}
 use Rattle.paper.specs.Words.{sum}
-use Rattle.paper.specs.Limits.{most_tasks}
 use Rattle.paper.specs.Tables.{Plan}
 use Rattle.paper.specs.Sets as Sets
 use Rattle.paper.specs.Sweeps.{Leaving}
 use Rattle.paper.specs.Report.{Figures}
 use Rattle.paper.specs.Answer.{Reported}
-use Rattle.sweep.specs.declared.all.Ended.{Ended}
-use Rattle.sweep.specs.declared.all.Ended.TheVariants as ended
-use Rattle.sweep.specs.declared.all.Outcome.{Outcome}
-use Rattle.sweep.specs.Columns.{per_task}
+use Rattle.sweep.specs.declared.once.Left.{Left}
+use Rattle.sweep.specs.declared.once.Figure.{Figure}
+use Rattle.sweep.specs.Rows.{per_task, figure}
 
--- The sweeps settle in sweep number m: the columns hold the figures of the report, each task's bound R+, the jitter of its input
--- stream and the jobs looked at, and 0 past the count of tasks.
-pub record Settled (p : Plan) (m : ℕ) (r : Outcome) : Type 0 where
+-- A task's figures, those of the report: its bound R+, its input stream and the jobs looked at.
+abbrev pub figure_of : Plan → Figures → ℕ → Figure
+figure_of p figures k = figure (figures.R k) (Sets.inputs p figures.R k) (figures.jobs k)
+
+-- The sweeps settle in sweep number m: the rows hold the figures of the report.
+pub record Settled (p : Plan) (m : ℕ) (written : List Figure) : Type 0 where
   pub figures : Figures
   pub reported : Reported p figures
   pub sweep : m ≡ figures.sweeps
   -- "It is never above 1 plus the sum over tasks of R+ - C+."
   pub few : m ≤ 1 + sum p.tasks (λ k. figures.R k - (p.task k).C+)
-  pub bounds : r.bound ≡ per_task p figures.R
-  pub inputs : r.input ≡ per_task p (λ k. (Sets.inputs p figures.R k).J)
-  pub jobs : r.jobs ≡ per_task p figures.jobs
+  pub rows : written ≡ per_task p (figure_of p figures)
 
--- Sweep number m is the first in which a task leaves the limits, and k the lowest such task: the columns hold nothing but 0.
-pub record Left (p : Plan) (m k : ℕ) (r : Outcome) : Type 0 where
-  pub leaving : Leaving p m k
-  pub bounds : r.bound ≡ replicate most_tasks 0
-  pub inputs : r.input ≡ replicate most_tasks 0
-  pub jobs : r.jobs ≡ replicate most_tasks 0
+-- The first sweep in which a task leaves the limits, and the lowest such task: there are no figures.
+pub record Gone (p : Plan) (left : Left) (written : List Figure) : Type 0 where
+  pub leaving : Leaving p left.sweep left.task.0
+  pub rows : written ≡ []
 
--- What an end says of a plan and an outcome.
-abbrev pub Says : Plan → Outcome → Ended → Type 0
-Says p r (ended.Settled m) = Settled p m r
-Says p r (ended.Left k m) = Left p m k.0 r
-
--- The outcome is that of the plan's sweeps.
-abbrev pub Ends : Plan → Outcome → Type 0
-Ends p r = Says p r r.ended
+-- What the end of the sweeps says of a plan and the rows of figures.
+abbrev pub Ends : Plan → Result ℕ Left → List Figure → Type 0
+Ends p (Ok m) rows = Settled p m rows
+Ends p (Err left) rows = Gone p left rows

@@ -1,19 +1,31 @@
--- The plan that a table of tasks is of.
-use Rattle.std.specs.Prelude.{ℕ, ◌≡◌, List}
+-- The plan whose tasks rows tell, with what sweeps read beside them.
+use Rattle.std.specs.Prelude.{ℕ, ◌≤◌, ◌<◌, ◌^◌, ◌≡◌, List, length}
+use Rattle.paper.specs.Limits.{most_ticks}
 use Rattle.paper.specs.Tables.{Plan}
-use Rattle.paper.specs.Load as Load
+use Rattle.paper.specs.Windows.{Inputs}
 use Rattle.theory.specs.Plans.Sound.{Sound, Ranged}
-use Rattle.plan.specs.Tables.{task_columns}
-use Rattle.plan.specs.declared.tasks.Tasks.{Tasks}
-use Rattle.sweep.specs.Columns.{per_task}
+use Rattle.stream.specs.declared.model.EventModel.{EventModel}
+use Rattle.plan.specs.Tables.{task_rows}
+use Rattle.plan.specs.declared.tasks.Task.{Task}
+use Rattle.sweep.specs.declared.once.Figure.{Figure}
+use Rattle.sweep.specs.Rows.{per_task, stream_row, bounds_of}
 
--- The table is that of a plan that is sound and fits the machine,
-pub record Planned (p : Plan) (t : Tasks) : Type 0 where
+-- The rows are those of a plan that is sound and fits the machine.
+pub record Planned (p : Plan) (tasks : List Task) : Type 0 where
   pub sound : Sound p
   pub ranged : Ranged p
-  pub columns : t ≡ task_columns p
+  pub rows : tasks ≡ task_rows p
 
--- and the column holds the periods of the plan's tasks, each "that of the outside stream at the chain's start".
-pub record Prepared (p : Plan) (t : Tasks) (period : List ℕ) : Type 0 where
-  pub planned : Planned p t
-  pub periods : period ≡ per_task p (Load.period p)
+-- Beside them stands a set of bounds, one for each task and none above the limit,
+pub record Bounding (p : Plan) (tasks : List Task) (set : List Figure) : Type 0 where
+  pub planned : Planned p tasks
+  pub count : length set ≡ p.tasks
+  pub capped : (k : ℕ) → k < p.tasks → bounds_of set k ≤ most_ticks
+
+-- or every task's input stream S, no period 0, none above the limit, and every jitter small.
+pub record Streaming (p : Plan) (S : Inputs) (tasks : List Task) (inputs : List EventModel) : Type 0 where
+  pub planned : Planned p tasks
+  pub streams : inputs ≡ per_task p (stream_row S)
+  pub some_period : (k : ℕ) → k < p.tasks → 1 ≤ (S k).P
+  pub short_period : (k : ℕ) → k < p.tasks → (S k).P ≤ most_ticks
+  pub small_jitter : (k : ℕ) → k < p.tasks → (S k).J < 2 ^ 37

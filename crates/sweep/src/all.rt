@@ -1,94 +1,57 @@
 // All sweeps: "Start with R+ = C+ for all", up to the first sweep that changes nothing or in which a task leaves the limits.
-ghost use Rattle.std.specs.Prelude.{◌≤◌};
-ghost use Rattle.paper.specs.Limits.{most_tasks};
+ghost use Rattle.std.specs.Prelude.{◌≡◌, length};
 ghost use Rattle.paper.specs.Tables.{Plan};
 ghost use Rattle.theory.specs.Sweeps.Climb.{Same};
-ghost use Rattle.sweep.specs.Columns.{bounds_of, Tells};
-ghost use Rattle.sweep.specs.Planned.{Prepared};
+ghost use Rattle.sweep.specs.Rows.{bounds_of, per_task, first_figure, Tells};
+ghost use Rattle.sweep.specs.Planned.{Planned};
 ghost use Rattle.sweep.specs.Ends.{Ends};
 
-use crate::chains::jitters;
-use crate::once::sweep;
+use crate::once::{Figure, Left, sweep};
+use arrayvec::ArrayVec;
 use limits::TASKS;
-use plan::Tasks;
-use stream::TaskNo;
+use plan::Task;
 
-// How the sweeps end: sweep number `sweep` is the first that changes nothing, or the first in which a task leaves the limits, of
-// which `task` is the lowest.
-#[derive(Clone, Copy)]
-pub enum Ended {
-    Settled { sweep: u64 },
-    Left { task: TaskNo, sweep: u64 },
-}
-
-// What the sweeps come to: how they end and, where they settle, each task's R+, the jitter of its input stream and the jobs looked
-// at. All else is 0.
-#[derive(Clone, Copy)]
-pub struct Outcome {
-    pub ended: Ended,
-    pub bound: [u64; TASKS],
-    pub input: [u64; TASKS],
-    pub jobs: [u64; TASKS],
+// The set to start with: "R+ = C+ for all".
+fn start(tasks: &[Task]) -> ArrayVec<Figure, TASKS>
+    requires { (p : Plan) × Planned p tasks.now }
+    ensures { (p : Plan) → Planned p tasks.now → result.items ≡ per_task p (first_figure p) }
+{
+    let mut set = ArrayVec::new();
+    for task in tasks {
+        set.push(Figure {
+            bound: task.most,
+            ..Figure::default()
+        });
+    }
+    set
 }
 
 // Whether two sets of bounds are the same.
-fn same<'a>(count: usize, old: &'a [u64; TASKS], new: &'a [u64; TASKS]) -> bool
-    requires { count ≤ most_tasks }
-    ensures { Tells result (Same count (bounds_of old.now) (bounds_of new.now)) }
+fn same(old: &[Figure], new: &[Figure]) -> bool
+    requires { length old.now ≡ length new.now }
+    ensures { Tells result (Same (length old.now) (bounds_of old.now) (bounds_of new.now)) }
 {
-    let mut k: usize = 0;
-    while k < count {
-        if old[k] != new[k] {
-            return false;
-        }
-        k += 1;
-    }
-    true
+    old.iter().zip(new).all(|(a, b)| a.bound == b.bound)
 }
 
-// Sweeps over the tasks, whose periods are worked out, until a sweep changes nothing or a task leaves the limits. Each sweep before
-// that lets a bound grow, and none grows above the limit, so the sweeps end.
-pub fn settle(t: Tasks, period: [u64; TASKS]) -> Outcome
-    requires { (p : Plan) × Prepared p t period }
-    ensures { (p : Plan) → Prepared p t period → Ends p result }
+// Sweeps over the tasks until a sweep changes nothing, and gives that sweep's number, or until a task leaves the limits. Each sweep
+// before that lets a bound grow, and none grows above the limit, so the sweeps end. The figures are those of the sweep that changed
+// nothing. Where a task leaves the limits there are none. (They are lent, and no part of the
+// result: edit old_bounds must be able to leave some there.)
+pub fn settle(tasks: &[Task], figures: &mut ArrayVec<Figure, TASKS>) -> Result<u64, Left>
+    requires { (p : Plan) × Planned p tasks.now }
+    ensures { (p : Plan) → Planned p tasks.now → Ends p result figures.new.items }
 {
-    let count = t.count;
-    let mut set = t.most;
+    figures.clear();
+    let mut set = start(tasks);
     let mut sweeps: u64 = 0;
     loop {
-        let input = jitters(count, &t.fed, &t.feeder, &t.least, &period, &t.jitter, &set);
-        let swept = sweep(
-            count,
-            &t.controller,
-            &t.priority,
-            &t.least,
-            &t.most,
-            &period,
-            &input,
-        );
         sweeps += 1;
-        let end = swept.end;
-        if end.0 < count {
-            return Outcome {
-                ended: Ended::Left {
-                    task: end,
-                    sweep: sweeps,
-                },
-                bound: [0u64; TASKS],
-                input: [0u64; TASKS],
-                jobs: [0u64; TASKS],
-            };
+        let new = sweep(tasks, &set, sweeps)?;
+        if same(&set, &new) {
+            *figures = new;
+            return Ok(sweeps);
         }
-        let bound = swept.bound;
-        if same(count, &set, &bound) {
-            let jobs = swept.jobs;
-            return Outcome {
-                ended: Ended::Settled { sweep: sweeps },
-                bound: set,
-                input,
-                jobs,
-            };
-        }
-        set = bound;
+        set = new;
     }
 }

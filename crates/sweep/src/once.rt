@@ -1,97 +1,88 @@
 // One sweep: "A sweep works out every R+ anew from the previous set."
 ghost use Rattle.std.specs.Prelude.{◌<◌};
 ghost use Rattle.paper.specs.Tables.{Plan};
-ghost use Rattle.paper.specs.Windows.{Inputs, setting};
-ghost use Rattle.bound.specs.Answers.{Says};
-ghost use Rattle.sweep.specs.Columns.{Sweeping};
-ghost use Rattle.sweep.specs.Works.{Works};
+ghost use Rattle.paper.specs.Windows.{Inputs};
+ghost use Rattle.paper.specs.Sets.{inputs};
+ghost use Rattle.sweep.specs.Rows.{bounds_of};
+ghost use Rattle.sweep.specs.Planned.{Bounding, Streaming};
+ghost use Rattle.sweep.specs.Works.{Finds, Works};
 
-use crate::rivals::gather;
-use bound::{Own, Worked, work_out};
-use limits::TASKS;
-use stream::{EventModel, TaskNo, Ticks};
+use crate::chains::inputs;
+use crate::rivals::Streamed;
+use arrayvec::ArrayVec;
+use bound::{Own, Rival, Worked, work_out};
+use limits::{SHARING, TASKS};
+use plan::Task;
+use stream::{EventModel, Events, TaskNo, Ticks};
 
-// What a sweep has worked out: the bounds of the tasks before its end and the jobs looked at, and 0 past them. Its end is the lowest
-// task that leaves the limits, or the number behind the last task's where none does.
-#[derive(Clone, Copy)]
-pub(crate) struct Swept {
-    pub end: TaskNo,
-    pub bound: [u64; TASKS],
-    pub jobs: [u64; TASKS],
+// The figures of a task: its bound R+, its input stream, and the jobs looked at.
+#[derive(Clone, Copy, PartialEq, Eq, Default)]
+pub struct Figure {
+    pub bound: Ticks,
+    pub input: EventModel,
+    pub jobs: Events,
 }
 
-// Works out the bound of a task.
-fn bound_of<'a>(
-    count: usize,
-    controller: &'a [usize; TASKS],
-    priority: &'a [u64; TASKS],
-    least: &'a [u64; TASKS],
-    most: &'a [u64; TASKS],
-    period: &'a [u64; TASKS],
-    jitter: &'a [u64; TASKS],
-    task: TaskNo,
-) -> Worked
-    requires { (p : Plan) × (S : Inputs)
-        × Sweeping p S count controller.now priority.now least.now most.now period.now jitter.now × (task.0 < count) }
-    ensures { (p : Plan) (S : Inputs) → Sweeping p S count controller.now priority.now least.now
-        most.now period.now jitter.now → Says (setting p S task.0) result }
-{
-    let k = task.0;
-    let own = Own {
-        least: Ticks(least[k]),
-        most: Ticks(most[k]),
-        input: EventModel {
-            period: Ticks(period[k]),
-            jitter: Ticks(jitter[k]),
-        },
-    };
-    let rivals = gather(count, controller, priority, most, period, jitter, task);
-    work_out(own, rivals)
+// The first sweep in which a task leaves the limits, and the lowest such task.
+#[derive(Clone, Copy, PartialEq, Eq)]
+pub struct Left {
+    pub task: TaskNo,
+    pub sweep: u64,
 }
 
-// Works out the bounds of all tasks, up to the lowest that leaves the limits.
-pub(crate) fn sweep<'a>(
-    count: usize,
-    controller: &'a [usize; TASKS],
-    priority: &'a [u64; TASKS],
-    least: &'a [u64; TASKS],
-    most: &'a [u64; TASKS],
-    period: &'a [u64; TASKS],
-    jitter: &'a [u64; TASKS],
-) -> Swept
-    requires { (p : Plan) × (S : Inputs)
-        × Sweeping p S count controller.now priority.now least.now most.now period.now jitter.now }
-    ensures { (p : Plan) (S : Inputs) → Sweeping p S count controller.now priority.now least.now
-        most.now period.now jitter.now → Works p S result }
-{
-    let mut bound = [0u64; TASKS];
-    let mut jobs = [0u64; TASKS];
-    let mut k: usize = 0;
-    while k < count {
-        let worked = bound_of(
-            count,
-            controller,
-            priority,
-            least,
-            most,
-            period,
-            jitter,
-            TaskNo(k),
-        );
-        let Worked::Within(new, looked_at) = worked else {
-            return Swept {
-                end: TaskNo(k),
-                bound,
-                jobs,
-            };
+impl Streamed<'_> {
+    // Works out the figures of a task, or nothing: the task leaves the limits. The list of rivals is lent: one
+    // made for each task cost a twelfth of all on a plan of 64 tasks.
+    fn figure_of(self, k: TaskNo, rivals: &mut ArrayVec<Rival, SHARING>) -> Option<Figure>
+        requires { (p : Plan) × (S : Inputs) × Streaming p S self.tasks.now self.inputs.now × (k.0 < p.tasks) }
+        ensures { (p : Plan) (S : Inputs) → Streaming p S self.entry.tasks.now self.entry.inputs.now → k.0 < p.tasks
+            → Finds p S k.0 result }
+    {
+        let task = &self.tasks[k.0];
+        let input = self.inputs[k.0];
+        let own = Own {
+            least: task.least,
+            most: task.most,
+            input,
         };
-        bound[k] = new.0;
-        jobs[k] = looked_at.0;
-        k += 1;
+        self.gather(k, rivals);
+        let Worked { bound, jobs } = work_out(own, rivals)?;
+        Some(Figure { bound, input, jobs })
     }
-    Swept {
-        end: TaskNo(k),
-        bound,
-        jobs,
+
+    // Works out the figures of all tasks in sweep number `number`, or tells the lowest task that leaves the limits in it. (By number: it
+    // is what is told of the task that leaves.)
+    fn figures_of(self, number: u64) -> Result<ArrayVec<Figure, TASKS>, Left>
+        requires { (p : Plan) × (S : Inputs) × Streaming p S self.tasks.now self.inputs.now }
+        ensures { (p : Plan) (S : Inputs) → Streaming p S self.entry.tasks.now self.entry.inputs.now → Works p S number result }
+    {
+        let mut figures = ArrayVec::new();
+        let mut rivals = ArrayVec::new();
+        for k in 0..self.tasks.len() {
+            let task = TaskNo(k);
+            let left = Left {
+                task,
+                sweep: number,
+            };
+            figures.push(self.figure_of(task, &mut rivals).ok_or(left)?);
+        }
+        Ok(figures)
     }
+}
+
+// Sweep number `number`: the figures of all tasks anew from the previous set, or the lowest task that leaves the limits.
+pub(crate) fn sweep(
+    tasks: &[Task],
+    set: &[Figure],
+    number: u64,
+) -> Result<ArrayVec<Figure, TASKS>, Left>
+    requires { (p : Plan) × Bounding p tasks.now set.now }
+    ensures { (p : Plan) → Bounding p tasks.now set.now → Works p (inputs p (bounds_of set.now)) number result }
+{
+    let inputs = inputs(tasks, set);
+    let streamed = Streamed {
+        tasks,
+        inputs: &inputs,
+    };
+    streamed.figures_of(number)
 }

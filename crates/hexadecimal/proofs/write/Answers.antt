@@ -10,12 +10,9 @@ pub loop-i-preserved : goal.loop-i-preserved
 loop-i-preserved c =
     let l = c.loop-i in
     let bytes = c.args.bytes.now in
-    let high = c.digit-high in
-    let low = c.digit-low in
-    let h : l.i < length bytes = omega arith in (
+    let h : l.i < length bytes = c.loop-i-test.true in (
       simp length-set l.invariant.0,
-      omega arith,
-      rw (high.ensures, low.ensures) (byte_more bytes l.text l.i h ∙ l.invariant.2),
+      rw (c.digit.ensures, c.digit-in-loop-i.ensures) (byte_more bytes l.text l.i h ∙ l.invariant.1),
     )
 
 -- At the end no bytes are left.
@@ -24,4 +21,4 @@ unfolding hex_of
 returns c =
     let bytes = c.args.bytes.now in
     let done : c.loop-i.i ≡ length bytes = omega arith in
-    rw (done, drop-length bytes) at c.loop-i.invariant.2
+    rw (done, drop-length bytes) at c.loop-i.invariant.1

@@ -1,5 +1,5 @@
 -- The loop of `write`.
-use Rattle.std.proofs.Common.{◌≡◌, ◌≤◌, ◌-◌, ◌*◌, length, drop}
+use Rattle.std.proofs.Common.{◌≡◌, ◌*◌, length, drop}
 use Rattle.std.proofs.lemmas.List.Edits.{sets}
 use Rattle.paper.specs.Line.{hex_of}
 use Rattle.hexadecimal.proofs.write.Given as goal
@@ -9,9 +9,4 @@ use Rattle.hexadecimal.proofs.write.Given as goal
 abbrev pub invariant-loop-i : goal.invariant-loop-i
 invariant-loop-i l =
     (length l.text ≡ length l.initial.text)
-    × (l.i ≤ length l.bytes)
     × (sets l.text (2 * l.i) (hex_of (drop l.i l.bytes)) ≡ sets l.initial.text 0 (hex_of l.bytes))
-
--- How many bytes are left.
-abbrev pub decreases-loop-i : goal.decreases-loop-i
-decreases-loop-i l = length l.bytes - l.i

@@ -1,5 +1,6 @@
 -- The carry: a·m + b·c, limb by limb.
-use Rattle.std.proofs.Common.{ℕ, zero, suc, ◌+◌, ◌*◌, ◌/◌, ◌%◌, ◌≤◌, ◌<◌, mul-le-mul_right, le_refl, arith, ◌≡◌, refl, ap, ◌∙◌, List, get_or, set, get_or-set_same, get_or-set_other}
+use Rattle.std.proofs.Common.{ℕ, zero, suc, ◌+◌, ◌*◌, ◌/◌, ◌%◌, ◌≤◌, ◌<◌, mul-le-mul_right, le_refl, arith}
+use Rattle.std.proofs.Common.{◌≡◌, refl, ap, ◌∙◌, List, get_or, set, get_or-set_same, get_or-set_other}
 use Rattle.paper.specs.Limits.{most_sharing}
 use Rattle.load.specs.Limbs.{base, power, value, Limbs, Used, HasRoom, MulAdded}
 use Rattle.load.proofs.limbs.Number.{same, whole, put}
@@ -57,11 +58,11 @@ further {a} {b} {now} {m} {c} {carry} {i} h f l r =
 pub finish : {a b now : List ℕ} {m c carry n : ℕ} → HasRoom n a m b c → Reached a m b c now carry n
     → MulAdded n a m b c now
 finish {now = now} {carry = carry} {n = n} h r =
-    let in-a = whole h.counted h.a_used in
+    let in_a = whole h.counted h.a_used in
     let in_b = whole h.counted h.b_used in
     let used : Used n now = record { limbs = r.limbs; unused = λ i l. r.ahead i l ∙ h.a_used.unused i l } in
     record {
       used = used;
-      becomes = rw (whole h.counted used, in-a, in_b)
-          (carry_free _ carry (power n) _ r.holds (rw (in-a, in_b) at h.room));
+      becomes = rw (whole h.counted used, in_a, in_b)
+          (carry_free _ carry (power n) _ r.holds (rw (in_a, in_b) at h.room));
     }

@@ -1,5 +1,6 @@
 -- Laws of a number in limbs.
-use Rattle.std.proofs.Common.{ℕ, zero, suc, ◌+◌, ◌*◌, ◌≤◌, ◌<◌, mul-le-mul_right, arith, ◌≡◌, refl, ap, ap₂, ◌∙◌, List, get_or, set, replicate, length-set, get_or-set_same, get_or-set_other}
+use Rattle.std.proofs.Common.{ℕ, zero, suc, ◌+◌, ◌*◌, ◌≤◌, ◌<◌, mul-le-mul_right, arith}
+use Rattle.std.proofs.Common.{◌≡◌, refl, ap, ap₂, ◌∙◌, List, get_or, set, replicate, length-set, get_or-set_same, get_or-set_other}
 use Rattle.std.proofs.Math.Decide.{ℕ_discrete, dec_le}
 use Rattle.paper.specs.Limits.{most_sharing}
 use Rattle.load.specs.Limbs.{base, power, value, number, Limbs, Used}
@@ -41,6 +42,7 @@ zeros =
       unused = λ i h. zero_at most_sharing i;
     }
   where
+    -- Each of them is 0, and so is what stands past the end.
     zero_at : (n i : ℕ) → get_or {A = ℕ} (replicate n 0) i 0 ≡ 0
     zero_at zero i = refl
     zero_at (suc n) zero = refl
@@ -55,3 +57,9 @@ put {a} i x l h s =
           elim (ℕ_discrete j i)
           [ yes e ↦ rw (e, get_or-set_same a i x 0 (rw l.all h)) s | no n ↦ rw (get_or-set_other a i j x 0 n) (l.small j) ];
     }
+
+-- A power is above 0.
+pub positive : (n : ℕ) → 0 < power n
+unfolding power
+positive zero = omega arith
+positive (suc n) = omega (arith, positive n)

@@ -2,8 +2,10 @@
 use Rattle.std.proofs.Common.{length, ◌-◌, ◌≤◌}
 use Rattle.console.proofs.input.read_up_to.Given as goal
 
-abbrev pub invariant-loop-n : goal.invariant-loop-n
-invariant-loop-n g l = l.n ≤ length l.space
+-- The loop's invariant: no more bytes came than there is space for.
+abbrev pub invariant-loop-bytes : goal.invariant-loop-bytes
+invariant-loop-bytes g l = l.bytes ≤ length l.space
 
-abbrev pub decreases-loop-n : goal.decreases-loop-n
-decreases-loop-n g l = length l.initial.space - l.n
+-- What falls with each turn: the bytes that there is still space for.
+abbrev pub decreases-loop-bytes : goal.decreases-loop-bytes
+decreases-loop-bytes g l = length l.initial.space - l.bytes

@@ -1,22 +1,17 @@
 -- `answer_line_and_sweep` puts the line of the answer that is due, with the sweep number at its end.
-use Rattle.bench.specs.Answers.{numbered}
-use Rattle.theory.specs.Outcomes.Room.{accepted_inside}
 use Rattle.console.specs.Said.{swept_line_of}
-use Rattle.console.proofs.Laws.{put_more, due_numbered}
+use Rattle.console.proofs.Laws.{put_more}
 use Rattle.console.proofs.line.answer_line_and_sweep.Goals as goal
-
--- A report that is accepted lies inside its room.
-pub put_words-words-requires : goal.put_words-words-requires
-put_words-words-requires c none = accepted_inside (due_numbered c.answer.ensures c.numbers_of-numbers.ensures) none
 
 -- The words of the answer that is due, a space, the sweep number and the end of the line.
 pub returns-clause-says : goal.returns-clause-says
 unfolding swept_line_of
 returns-clause-says c =
-    let words = c.put_words-words.ensures.0 in
+    let (words, same) = c.put_answer-words.ensures.says in
+    let sweep = rw same at c.put_decimal-swept.ensures.0 in
     record {
-      answer = numbered c.numbers_of-numbers.result;
-      out = c.answer.new.report;
-      due = due_numbered c.answer.ensures c.numbers_of-numbers.ensures;
-      put = put_more (put_more (put_more words c.put-space.ensures) c.put_decimal-sweep.ensures.0) c.put.ensures;
+      answer = words.answer;
+      out = words.out;
+      due = words.due;
+      put = put_more (put_more (put_more words.put c.put-space.ensures) sweep) c.put.ensures;
     }

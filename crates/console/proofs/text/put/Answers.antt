@@ -1,24 +1,15 @@
--- `put` stores the bytes one behind the other.
-use Rattle.std.proofs.Common.{◌≡◌, length, add-zero, arith, ◌∙◌}
-use Rattle.std.proofs.Math.Seq.{drop-length}
-use Rattle.console.proofs.Laws.{byte_more}
+-- `put` copies the bytes over a part of the text.
+use Rattle.std.proofs.Common.{arith, length, ◌-◌, ◌+◌, ◌≡◌, ◌∙◌, sym, refl}
+use Rattle.std.proofs.lemmas.List.{append_assoc, drop-drop}
+use Rattle.std.proofs.lemmas.List.Edits.{sets-eq}
 use Rattle.console.proofs.text.put.Goals as goal
 
--- Nothing is stored yet.
-pub loop-i-init : goal.loop-i-init
-loop-i-init c = record { within = omega arith; stored = rw (add-zero c.args.at) }
-
--- One byte more is stored.
-pub loop-i-preserved : goal.loop-i-preserved
-loop-i-preserved c =
-    let l = c.loop-i in
-    record {
-      within = omega arith;
-      stored = byte_more c.args.bytes.now l.text c.args.at l.i (omega arith) ∙ l.invariant.stored;
-    }
-
--- All bytes are stored.
+-- What is copied over a part of the text is stored there.
 pub returns : goal.returns
 returns c =
-    let done : c.loop-i.i ≡ length c.args.bytes.now = omega arith in
-    record { stored = rw (done, drop-length c.args.bytes.now) at c.loop-i.invariant.stored; ends = omega arith }
+    let bytes = c.args.bytes.now in
+    let text = c.args.text.now in
+    let at = c.args.at in
+    let size : at + length bytes - at ≡ length bytes = omega arith in
+    let copied = sym (append_assoc _ bytes _) ∙ sym (sets-eq bytes text at c.requires) in
+    record { stored = rw (c.copy_from_slice.ensures.after, size, drop-drop (length bytes) at text) copied; ends = refl }

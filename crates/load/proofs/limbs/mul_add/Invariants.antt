@@ -1,12 +1,7 @@
 -- The loop of `limbs::mul_add`.
-use Rattle.std.proofs.Common.{◌≤◌, ◌-◌}
 use Rattle.load.proofs.limbs.Carry.{Reached}
 use Rattle.load.proofs.limbs.mul_add.Given as goal
 
 -- The limbs before i hold a·m + b·c with the carry.
 abbrev pub invariant-loop-i : goal.invariant-loop-i
-invariant-loop-i l = (l.i ≤ l.n) × Reached l.initial.a l.m l.b l.c l.a l.carry l.i
-
--- How many limbs are left.
-abbrev pub decreases-loop-i : goal.decreases-loop-i
-decreases-loop-i l = l.n - l.i
+invariant-loop-i l = Reached l.initial.a l.m l.b l.c l.a l.carry l.i

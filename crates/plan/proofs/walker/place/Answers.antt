@@ -1,13 +1,13 @@
--- `walker::place` gives where field number f begins.
-use Rattle.std.proofs.Common.{arith}
+-- `place` follows the walker from the first field on.
 use Rattle.plan.proofs.Begin.{begins, begins_next}
 use Rattle.plan.proofs.walker.place.Goals as goal
 
 -- The first field begins at 0.
 pub loop-g-init : goal.loop-g-init
-loop-g-init c = record { reached = omega arith; begins = begins _ }
+loop-g-init c = begins _
 
--- The next field begins where the walker went.
+-- The next field begins where the walker goes.
 pub loop-g-preserved : goal.loop-g-preserved
 loop-g-preserved c =
-    record { reached = omega arith; begins = begins_next (omega arith) c.loop-g.invariant.begins c.walked-at.ensures }
+    let went = rw (c.placed.ensures.0, c.placed.ensures.1) at c.next-at.ensures in
+    begins_next c.loop-g.invariant went.0 went.1

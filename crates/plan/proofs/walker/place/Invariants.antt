@@ -1,10 +1,7 @@
--- The loop of `walker::place`: field number g begins at the place. It ends, as g comes nearer to f.
-use Rattle.std.proofs.Common.{◌-◌, ◌≤◌}
+-- `place` follows the walker from the first field on.
 use Rattle.plan.specs.Places.{Begins}
 use Rattle.plan.proofs.walker.place.Given as goal
 
+-- The loop's invariant: field number g begins at the place.
 abbrev pub invariant-loop-g : goal.invariant-loop-g
-invariant-loop-g l = record { reached : l.g ≤ l.f; begins : Begins l.s l.g l.at }
-
-abbrev pub decreases-loop-g : goal.decreases-loop-g
-decreases-loop-g l = l.f - l.g
+invariant-loop-g l = Begins l.s l.g l.at

@@ -1,8 +1,31 @@
--- `endless` says whether going back never ends.
-use Rattle.rules.specs.Faults.{endless}
+-- `endless` goes back from feeder to feeder.
+use Rattle.std.proofs.Common.{ℕ, suc, ◌+◌, ◌-◌, ◌<◌, ◌≡◌, true, false, Bool, cond, arith, length}
+use Rattle.rules.specs.Faults.{back_from, endless}
+use Rattle.rules.specs.Rows.{fed_in}
 use Rattle.rules.proofs.faults.endless.Goals as goal
 
--- The task that many steps back is looked at.
+-- Either of two numbers of tasks is the number of a task.
+either : (test : Bool) {j k tasks : ℕ} → j < tasks → k < tasks → cond test j k < tasks
+either true j k = j
+either false j k = k
+
+-- One step back, one step fewer is left.
+pub loop-m-preserved : goal.loop-m-preserved
+unfolding back_from
+loop-m-preserved c =
+    let so = c.loop-m in
+    let left : length c.args.tasks.now - so.m ≡ suc (length c.args.tasks.now - (so.m + 1)) = omega arith in
+    record {
+      counted =
+          rw (c.one_back-k.ensures, c.row.ensures)
+          (either (fed_in c.args.tasks.now so.k.0) (c.requires.1 so.k.0 so.invariant.counted) so.invariant.counted);
+      ahead = rw (c.one_back-k.ensures, c.row.ensures) (rw left at so.invariant.ahead);
+    }
+
+-- After the loop no step is left.
 pub returns : goal.returns
-unfolding endless
-returns c = rw c.back_from-start.ensures.0
+unfolding back_from endless
+returns c =
+    let so = c.loop-m in
+    let over : length c.args.tasks.now - so.m ≡ 0 = omega arith in
+    rw (c.is_fed.ensures, c.row-last.ensures, rw over at so.invariant.ahead)

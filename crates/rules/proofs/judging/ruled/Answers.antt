@@ -1,44 +1,41 @@
--- `ruled` judges a plan that reads, by its columns.
-use Rattle.paper.specs.Tables.{plan_of}
-use Rattle.theory.specs.Plans.Values.{read_head}
-use Rattle.plan.specs.Tables.{task_columns, path_columns}
+-- `ruled` judges a plan that reads, by its rows.
+use Rattle.std.proofs.lemmas.Result.{err_from_is_err_and}
 use Rattle.plan.proofs.Chain.{chain}
 use Rattle.rules.proofs.WhenRead.{feeders, parts, outcome}
 use Rattle.rules.proofs.judging.ruled.Goals as goal
 
--- There is room for the tasks,
-pub refusal_7-seven-requires : goal.refusal_7-seven-requires
-unfolding task_columns plan_of
-refusal_7-seven-requires c = rw c.requires.tasks (read_head _ c.requires.reads).tasks
+-- The tasks' feeders are tasks,
+pub refusal_8-requires : goal.refusal_8-requires
+refusal_8-requires c = feeders c.requires
 
--- and their feeders are tasks,
-pub refusal_8-eight-requires : goal.refusal_8-eight-requires
-unfolding task_columns plan_of
-refusal_8-eight-requires c = rw c.requires.tasks ((read_head _ c.requires.reads).tasks, feeders _ c.requires.reads)
+-- and the paths' parts lie inside the plan.
+pub refusal_9-requires : goal.refusal_9-requires
+refusal_9-requires c = parts c.requires
 
--- there is room for the paths, whose parts lie inside the plan,
-pub refusal_9-nine-requires : goal.refusal_9-nine-requires
-unfolding path_columns
-refusal_9-nine-requires c = rw c.requires.parts ((read_head _ c.requires.reads).paths, parts _ c.requires.reads)
+-- Where 7 is refused, that is what the rows come to;
+pub returns-in_err-refusal_7 : goal.returns-in_err-refusal_7
+returns-in_err-refusal_7 c =
+    let last = err_from_is_err_and c.from_residual.result c.from_residual.ensures.1 in
+    rw (last.1, last.2) (simp chain at (rw (← c.in_err-refusal_7.ensures) at (outcome c.requires)))
 
--- and there is room for the controllers.
-pub refusal_10-requires : goal.refusal_10-requires
-unfolding task_columns plan_of
-refusal_10-requires c =
-    rw (c.requires.tasks, c.controllers_of-controllers.ensures.0)
-    ((read_head _ c.requires.reads).tasks, (read_head _ c.requires.reads).controllers)
+-- where 8 is the first,
+pub returns-in_err-refusal_8 : goal.returns-in_err-refusal_8
+returns-in_err-refusal_8 c =
+    let last = err_from_is_err_and c.from_residual-in_err-refusal_8.result c.from_residual-in_err-refusal_8.ensures.1 in
+    rw (last.1, last.2)
+    (simp chain at (rw (← c.in_ok-refusal_7.ensures, ← c.in_err-refusal_8.ensures) at (outcome c.requires)))
 
--- The four refusals in their order are what the tables come to.
+-- or 9, that is;
+pub returns-in_err-refusal_9 : goal.returns-in_err-refusal_9
+returns-in_err-refusal_9 c =
+    let last = err_from_is_err_and c.from_residual-in_err-refusal_9.result c.from_residual-in_err-refusal_9.ensures.1 in
+    rw (last.1, last.2)
+    (simp chain at
+    (rw (← c.in_ok-refusal_7.ensures, ← c.in_ok-refusal_8.ensures, ← c.in_err-refusal_9.ensures) at (outcome c.requires)))
+
+-- otherwise what 10 says is.
 pub returns : goal.returns
-unfolding task_columns path_columns plan_of
 returns c =
-    rw (
-      c.refusal_10.ensures,
-      c.refusal_9-nine.ensures,
-      c.refusal_8-eight.ensures,
-      c.refusal_7-seven.ensures,
-      c.controllers_of-controllers.ensures.0,
-      c.requires.parts,
-      c.requires.tasks,
-    )
-    (simp chain (outcome _ c.requires.reads))
+    rw (c.refusal_10.ensures, c.head_of.ensures.controllers.0)
+    (simp chain at
+    (rw (← c.in_ok-refusal_7.ensures, ← c.in_ok-refusal_8.ensures, ← c.in_ok-refusal_9.ensures) at (outcome c.requires)))

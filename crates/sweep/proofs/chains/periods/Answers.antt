@@ -1,42 +1,38 @@
--- `periods` fills in the column of the periods.
-use Rattle.std.proofs.Common.{◌≡◌, arith}
-use Rattle.paper.specs.Load as Load
-use Rattle.sweep.proofs.Fill.{fill_none, fill_put, fill_every, fill_column}
-use Rattle.sweep.proofs.Lent.{counted, chained, periodic}
+-- `periods` takes a task's period more each time.
+use Rattle.std.proofs.Common.{◌≡◌, ◌∙◌, ap, length, arith}
+use Rattle.plan.specs.Tables.{tabulate}
+use Rattle.plan.proofs.Rows.{tabulated}
+use Rattle.sweep.specs.Rows.{period_of}
+use Rattle.sweep.proofs.Rows.{counted, room}
 use Rattle.sweep.proofs.chains.periods.Goals as goal
 
--- At first nothing is filled in.
+-- At first there is none.
 pub loop-k-init : goal.loop-k-init
+unfolding tabulate
 loop-k-init c =
     let (p, so) = c.requires in
-    record {
-      few = omega arith;
-      room = omega (arith, counted so, so.ranged.tasks);
-      zeros = fill_none;
-      filled = λ p so j l. absurd (omega arith);
-    }
+    record { room = room so; count = ap length c.new-periods.ensures; filled = λ p so. c.new-periods.ensures }
 
--- By the table the plan's chains are followed.
+-- The next task is one of the plan's.
 pub period_of-requires : goal.period_of-requires
 period_of-requires c =
     let (p, so) = c.requires in
-    (p, chained so, omega (arith, counted so))
+    (p, so, omega (arith, counted so))
 
--- One period more is filled in.
+-- Its period is put last.
 pub loop-k-preserved : goal.loop-k-preserved
 loop-k-preserved c =
     let so_far = c.loop-k.invariant in
     record {
-      few = omega arith;
       room = so_far.room;
-      zeros = fill_put so_far.zeros _;
+      count = omega (arith, c.push.ensures.len);
       filled = λ p so.
-          fill_every so_far.zeros (λ j x. x ≡ Load.period p j) _ (omega arith) (so_far.filled p so)
-          (c.period_of.ensures p (chained so) (periodic so) (omega (arith, counted so)));
+          c.push.ensures.items
+          ∙ tabulated (period_of p) (so_far.filled p so) (c.period_of.ensures p so (omega (arith, counted so)));
     }
 
--- At the end the column is whole.
+-- At the end every task has its own.
 pub returns : goal.returns
 returns c p so =
-    let all : c.loop-k.k ≡ p.tasks = omega (arith, counted so) in
-    rw all at (fill_column c.loop-k.invariant.zeros (Load.period p) (c.loop-k.invariant.filled p so))
+    let done : c.loop-k.k ≡ p.tasks = omega (arith, counted so) in
+    rw done at (c.loop-k.invariant.filled p so)

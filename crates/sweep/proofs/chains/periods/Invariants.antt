@@ -1,21 +1,17 @@
--- What the loop of `periods` keeps: the column holds the periods of the first k tasks.
-use Rattle.std.proofs.Common.{ℕ, ◌-◌, ◌≤◌, ◌<◌, ◌≡◌, get_or}
+-- What the loop of `periods` keeps: the periods of the first k tasks stand there.
+use Rattle.std.proofs.Common.{◌≤◌, ◌≡◌, length}
 use Rattle.paper.specs.Limits.{most_tasks}
 use Rattle.paper.specs.Tables.{Plan}
-use Rattle.paper.specs.Load as Load
-use Rattle.sweep.specs.Columns.{ZeroFrom}
+use Rattle.plan.specs.Tables.{tabulate}
+use Rattle.sweep.specs.Rows.{period_of}
 use Rattle.sweep.specs.Planned.{Planned}
 use Rattle.sweep.proofs.chains.periods.Given as goal
 
+-- They are k, for which there is room, and each is its task's.
 abbrev pub invariant-loop-k : goal.invariant-loop-k
 invariant-loop-k l =
     record {
-      few : l.k ≤ l.count;
-      room : l.count ≤ most_tasks;
-      zeros : ZeroFrom l.k l.period;
-      filled : (p : Plan) → Planned p l.t → (j : ℕ) → j < l.k → get_or l.period j 0 ≡ Load.period p j;
+      room : length l.tasks ≤ most_tasks;
+      count : length l.periods.items ≡ l.k;
+      filled : (p : Plan) → Planned p l.tasks → l.periods.items ≡ tabulate l.k (period_of p);
     }
-
--- The tasks that are left.
-abbrev pub decreases-loop-k : goal.decreases-loop-k
-decreases-loop-k l = l.count - l.k

@@ -3,12 +3,7 @@ use Rattle.std.proofs.Common.{arith}
 use Rattle.paper.specs.Streams.{d}
 use Rattle.stream.proofs.model.EventModel.least_distance.Goals as goal
 
--- The least distance of no events is 0.
-pub returns-then-n-eq0 : goal.returns-then-n-eq0
-unfolding d
-returns-then-n-eq0 c = rw c.if-n-eq0.true (omega arith)
-
 -- What is left of n - 1 periods without the jitter is the least distance.
 pub returns : goal.returns
 unfolding d
-returns c = omega arith
+returns c = grind (arith, c.minus.ensures, c.saturating_sub.ensures)

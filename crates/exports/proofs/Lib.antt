@@ -1,2 +1,0 @@
--- Laws that several functions' proofs cite.
-mod Lying
