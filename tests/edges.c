@@ -1,4 +1,6 @@
-/* What late.h says of empty spaces, of a report space that is too short and of one that is too long, and its limits. */
+/* What late.h says of empty spaces, of a report space that is too short and of one that is too long, its limits, and its stack. */
+#define _POSIX_C_SOURCE 200809L
+#include <pthread.h>
 #include <stdio.h>
 #include <string.h>
 
@@ -71,11 +73,48 @@ static uint64_t sharing(size_t tasks)
     return answer(shared, START + TASK * tasks);
 }
 
+/* Runs nothing. */
+static void *run_nothing(void *nothing)
+{
+    return nothing;
+}
+
+/* Answers case J with its report. */
+static void *run_answer(void *nothing)
+{
+    uint64_t place, sweep;
+    uint8_t report[LONG];
+    late_answer(plan, sizeof plan, report, sizeof report, &place, &sweep);
+    return nothing;
+}
+
+/* A thread's stack. */
+enum { STACK = 1 << 18, PAINT = 0xA7 };
+typedef long double stack_space[STACK / sizeof(long double)];
+
+/* How many bytes of its stack, which is painted before, a thread writes that runs so: 0 if it can't be run. */
+static size_t stack_of(void *(*run)(void *), stack_space space)
+{
+    const uint8_t *stack = (const uint8_t *)space;
+    pthread_attr_t with_stack;
+    pthread_t thread;
+    size_t untouched = 0;
+    memset(space, PAINT, STACK);
+    if (pthread_attr_init(&with_stack) || pthread_attr_setstack(&with_stack, space, STACK)
+        || pthread_create(&thread, &with_stack, run, NULL) || pthread_join(thread, NULL))
+        return 0;
+    while (untouched < STACK && stack[untouched] == PAINT)
+        untouched++;
+    return STACK - untouched;
+}
+
 int main(void)
 {
     uint64_t place = 7, sweep = 7, from = 7;
     uint8_t report[LONG + 3];
     static const uint8_t zeros[LATE_PLAN_BYTES + 1];
+    static stack_space idle, busy;
+    size_t of_nothing, of_answer;
 
     expect("an empty plan and no report space: 2", late_answer(NULL, 0, NULL, 0, &place, &sweep) == LATE_CUT);
     expect("place 0, sweep 0", place == 0 && sweep == 0);
@@ -111,6 +150,11 @@ int main(void)
     expect("the most tasks on a controller", sharing(LATE_MOST_SHARING) == LATE_SHORT);
     expect("a task more: 10", sharing(LATE_MOST_SHARING + 1) == LATE_CROWDED);
     expect("room for any report", late_report_bytes() == LATE_REPORT_BYTES);
+
+    of_nothing = stack_of(run_nothing, idle);
+    of_answer = stack_of(run_answer, busy);
+    expect("threads that run on stacks of their own", of_nothing > 0 && of_answer > of_nothing);
+    expect("a call takes about 30 KB of stack", of_answer - of_nothing < 32 * 1024);
 
     if (!failed)
         puts("edges: all as late.h says");

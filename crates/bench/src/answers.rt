@@ -57,23 +57,40 @@ pub struct Numbers {
     pub sweep: u64,
 }
 
+impl Numbers {
+    // Those of an answer that tells no sweep, whatever its number and its place are.
+    pub fn without_sweep(number: u64, place: usize) -> Numbers
+        ensures { numbered result ≡ record { number = number; place = place; sweep = 0 } }
+    {
+        Numbers {
+            number,
+            place: place as u64,
+            sweep: 0,
+        }
+    }
+}
+
 // An answer's number, place and sweep number.
 impl From<Answer> for Numbers {
     ghost from_gives = { λ a n. numbered n ≡ said a };
 
     // Takes them case by case: an accepted plan's number is 0.
     fn from(answer: Answer) -> Numbers {
-        let (number, place, sweep) = match answer {
-            Ok(Accepted { length, sweep }) => (0, length, sweep),
-            Err(Refusal::Plan(refusal)) => (refusal.number(), refusal.place(), 0),
-            Err(Refusal::Short { needed }) => (11, needed, 0),
-            Err(Refusal::Overloaded { controller }) => (12, controller.0, 0),
-            Err(Refusal::Unbounded(left)) => (13, left.task.0, left.sweep),
-        };
-        Numbers {
-            number,
-            place: place as u64,
-            sweep,
+        match answer {
+            Ok(Accepted { length, sweep }) => Numbers {
+                sweep,
+                ..Numbers::without_sweep(0, length)
+            },
+            Err(Refusal::Plan(refusal)) => Numbers::without_sweep(
+                refusal.number(),
+                refusal.place(),
+            ),
+            Err(Refusal::Short { needed }) => Numbers::without_sweep(11, needed),
+            Err(Refusal::Overloaded { controller }) => Numbers::without_sweep(12, controller.0),
+            Err(Refusal::Unbounded(left)) => Numbers {
+                sweep: left.sweep,
+                ..Numbers::without_sweep(13, left.task.0)
+            },
         }
     }
 }

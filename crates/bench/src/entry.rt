@@ -1,7 +1,8 @@
 // The entry: any bytes as a plan, any space for a report.
 ghost use Rattle.std.specs.Prelude.{◌≡◌, length};
 ghost use Rattle.paper.specs.Tables.{Plan, plan_of};
-ghost use Rattle.paper.specs.Refusals.{WellFormed};
+ghost use Rattle.paper.specs.Fields.{passed};
+ghost use Rattle.paper.specs.Refusals.{read, WellFormed};
 ghost use Rattle.sweep.specs.Rows.{per_task};
 ghost use Rattle.bench.specs.Answers.{Answers, Weighs, Ready};
 ghost use Rattle.bench.specs.Rows.{share_row};
@@ -64,15 +65,23 @@ fn report_of(s: &[u8], tasks: &[Task], paths: &[Path], report: &mut [u8]) -> Ans
     Ok(Accepted { length, sweep })
 }
 
+// The answer to a plan that reads. (Apart from the reading, so that no table is made room for where that refuses.)
+fn ruled_report(s: &[u8], report: &mut [u8]) -> Answer
+    requires { read s.now ≡ passed }
+    ensures { Ready s.now (length report.old) result report.new }
+{
+    let tasks = task_rows(s);
+    let paths = path_rows(s);
+    ruled(s, &tasks, &paths)?;
+    report_of(s, &tasks, &paths, report)
+}
+
 // The answer to a plan, with its report where it is accepted. Where it is refused, the report space is still to be filled.
 fn report_on(s: &[u8], report: &mut [u8]) -> Answer
     ensures { Ready s.now (length report.old) result report.new }
 {
     read(s)?;
-    let tasks = task_rows(s);
-    let paths = path_rows(s);
-    ruled(s, &tasks, &paths)?;
-    report_of(s, &tasks, &paths, report)
+    ruled_report(s, report)
 }
 
 // The answer to a plan, with its report or FF in the report space.

@@ -12,11 +12,12 @@ use arrayvec::ArrayVec;
 use limits::TASKS;
 use stream::{ControllerNo, EventModel, TaskNo, Ticks};
 
-// What activates a task: events of a stream from outside, or each completion of its feeder.
+// What activates a task: each completion of its feeder, or events of a stream from outside. (In this order a blank row is all zeros in
+// memory, and a table is cleared in one go.)
 #[derive(Clone, Copy, PartialEq, Eq)]
 pub enum Source {
-    Outside(EventModel),
     Fed(TaskNo),
+    Outside(EventModel),
 }
 
 // What the unused places of a table hold.

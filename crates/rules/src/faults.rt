@@ -57,7 +57,12 @@ pub(crate) fn endless(tasks: &[Task], task: TaskNo) -> bool
 {
     let mut k = task;
     for m in 0..tasks.len() {
-        k = one_back(row(tasks, k), k);
+        let here = row(tasks, k);
+        // From a task that is fed from outside all the steps that are left stay there.
+        if !is_fed(here) {
+            return false;
+        }
+        k = one_back(here, k);
     }
     let last = row(tasks, k);
     is_fed(last)

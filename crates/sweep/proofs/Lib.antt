@@ -7,3 +7,4 @@ mod Jitter
 pub mod Rows
 mod Turn
 mod Worked
+pub mod Known

@@ -1,5 +1,5 @@
 -- What the rows of a plan's tasks tell of it.
-use Rattle.std.proofs.Common.{ℕ, ◌≤◌, ◌<◌, ◌^◌, ◌≡◌, ap, sym, ◌∙◌, arith, List, length, get_or}
+use Rattle.std.proofs.Common.{ℕ, ◌+◌, ◌≤◌, ◌<◌, ◌^◌, ◌≡◌, ◌↔◌, ap, sym, ◌∙◌, arith, List, [], ◌++◌, length, get_or, Result, Ok, Err, IsOk, OnOk, true≢false}
 use Rattle.paper.specs.Limits.{most_tasks, most_cost, most_ticks}
 use Rattle.paper.specs.Tables as Tables
 use Rattle.paper.specs.Tables.{Plan, outside, fed}
@@ -14,6 +14,12 @@ use Rattle.plan.specs.Tables.{source_of, task_of, row_of, task_rows}
 use Rattle.plan.proofs.Rows.{length_tabulate, tabulate_at, task_held, told}
 use Rattle.sweep.specs.Rows.{stream_row}
 use Rattle.sweep.specs.Planned.{Planned, Streaming}
+
+-- What is put into an empty list, and is no more than it has room for, is all that stands there.
+pub copied : {A E : Type 0} {rows none more : List A} {most : ℕ} (r : Result (Unit {0}) E)
+    → (IsOk r ↔ (length none + length more ≤ most)) → OnOk r (rows ≡ none ++ more) → none ≡ [] → length more ≤ most → rows ≡ more
+copied {more = more} (Ok u) fits put empty room = put ∙ ap (λ none. none ++ more) empty
+copied (Err e) fits put empty room = absurd (true≢false (sym (fits.1 (rw empty (omega (arith, room))))))
 
 module _ {p : Plan} {tasks : List Task} (so : Planned p tasks) where
   -- There is a row for each task,

@@ -4,7 +4,6 @@ use Rattle.paper.specs.Words.{IsLeast}
 use Rattle.paper.specs.Tables.{Plan}
 use Rattle.paper.specs.Windows.{Inputs, Bounded, setting}
 use Rattle.paper.specs.Sweeps.{Leaves}
-use Rattle.arrayvec.specs.ArrayVec.{ArrayVec}
 use Rattle.stream.specs.Model.{model_of}
 use Rattle.sweep.specs.declared.once.Figure.{Figure}
 use Rattle.sweep.specs.declared.once.Left.{Left}
@@ -25,7 +24,7 @@ pub record Upto (p : Plan) (S : Inputs) (n : ℕ) (figures : List Figure) : Type
   pub count : length figures ≡ n
   pub each : (k : ℕ) → k < n → Figured p S k (get_or figures k no_figure)
 
--- Of sweep number n: it has worked out the figures of all tasks, or this is the lowest task that leaves the limits in it.
-abbrev pub Works : Plan → Inputs → ℕ → Result (ArrayVec Figure) Left → Type 0
-Works p S n (Ok figures) = Upto p S p.tasks figures.items
-Works p S n (Err left) = IsLeast (Leaves p S) left.task.0 × (left.sweep ≡ n)
+-- Of sweep number n and the figures that it leaves: they are those of all tasks, or this is the lowest task that leaves the limits in it.
+abbrev pub Works : Plan → Inputs → ℕ → Result (Unit {0}) Left → List Figure → Type 0
+Works p S n (Ok u) figures = Upto p S p.tasks figures
+Works p S n (Err left) figures = IsLeast (Leaves p S) left.task.0 × (left.sweep ≡ n)

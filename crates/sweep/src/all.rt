@@ -36,22 +36,24 @@ fn same(old: &[Figure], new: &[Figure]) -> bool
 
 // Sweeps over the tasks until a sweep changes nothing, and gives that sweep's number, or until a task leaves the limits. Each sweep
 // before that lets a bound grow, and none grows above the limit, so the sweeps end. The figures are those of the sweep that changed
-// nothing. Where a task leaves the limits there are none. (They are lent, and no part of the
-// result: edit old_bounds must be able to leave some there.)
+// nothing. Where a task leaves the limits there are none. (They are lent, and no part of the result: each sweep writes them where
+// they stay.)
 pub fn settle(tasks: &[Task], figures: &mut ArrayVec<Figure, TASKS>) -> Result<u64, Left>
     requires { (p : Plan) × Planned p tasks.now }
     ensures { (p : Plan) → Planned p tasks.now → Ends p result figures.new.items }
 {
-    figures.clear();
     let mut set = start(tasks);
     let mut sweeps: u64 = 0;
     loop {
         sweeps += 1;
-        let new = sweep(tasks, &set, sweeps)?;
-        if same(&set, &new) {
-            *figures = new;
+        if let Err(left) = sweep(tasks, &set, sweeps, figures) {
+            figures.clear();
+            return Err(left);
+        }
+        if same(&set, figures) {
             return Ok(sweeps);
         }
-        set = new;
+        set.clear();
+        let _ = set.try_extend_from_slice(figures);
     }
 }

@@ -52,11 +52,12 @@ impl Streamed<'_> {
 
     // Works out the figures of all tasks in sweep number `number`, or tells the lowest task that leaves the limits in it. (By number: it
     // is what is told of the task that leaves.)
-    fn figures_of(self, number: u64) -> Result<ArrayVec<Figure, TASKS>, Left>
+    fn figures_of(self, number: u64, figures: &mut ArrayVec<Figure, TASKS>) -> Result<(), Left>
         requires { (p : Plan) × (S : Inputs) × Streaming p S self.tasks.now self.inputs.now }
-        ensures { (p : Plan) (S : Inputs) → Streaming p S self.entry.tasks.now self.entry.inputs.now → Works p S number result }
+        ensures { (p : Plan) (S : Inputs) → Streaming p S self.entry.tasks.now self.entry.inputs.now
+            → Works p S number result figures.new.items }
     {
-        let mut figures = ArrayVec::new();
+        figures.clear();
         let mut rivals = ArrayVec::new();
         for k in 0..self.tasks.len() {
             let task = TaskNo(k);
@@ -66,23 +67,26 @@ impl Streamed<'_> {
             };
             figures.push(self.figure_of(task, &mut rivals).ok_or(left)?);
         }
-        Ok(figures)
+        Ok(())
     }
 }
 
-// Sweep number `number`: the figures of all tasks anew from the previous set, or the lowest task that leaves the limits.
+// Sweep number `number`: the figures of all tasks anew from the previous set, or the lowest task that leaves the limits. The list of
+// figures is lent: one that was made in each sweep was cleared and handed on thrice.
 pub(crate) fn sweep(
     tasks: &[Task],
     set: &[Figure],
     number: u64,
-) -> Result<ArrayVec<Figure, TASKS>, Left>
+    figures: &mut ArrayVec<Figure, TASKS>,
+) -> Result<(), Left>
     requires { (p : Plan) × Bounding p tasks.now set.now }
-    ensures { (p : Plan) → Bounding p tasks.now set.now → Works p (inputs p (bounds_of set.now)) number result }
+    ensures { (p : Plan) → Bounding p tasks.now set.now
+        → Works p (inputs p (bounds_of set.now)) number result figures.new.items }
 {
     let inputs = inputs(tasks, set);
     let streamed = Streamed {
         tasks,
         inputs: &inputs,
     };
-    streamed.figures_of(number)
+    streamed.figures_of(number, figures)
 }

@@ -1,9 +1,8 @@
--- `report_on` takes the refusals by reading and by the tables in their order.
+-- `report_on` refuses what reading refuses.
 use Rattle.std.proofs.Common.{◌≡◌, sym}
 use Rattle.std.proofs.lemmas.Result.{err_from_is_err_and}
 use Rattle.paper.specs.Answer as Answer
 use Rattle.bench.specs.declared.answers.Refusal.TheVariants.{Plan}
-use Rattle.bench.proofs.Due.{refused_due}
 use Rattle.bench.proofs.entry.report_on.Goals as goal
 
 -- Where reading refuses, its refusal is due.
@@ -12,10 +11,3 @@ returns-in_err-read c =
     let last = err_from_is_err_and c.from_residual.result c.from_residual.ensures.1 in
     let is : last.0 ≡ Plan c.in_err-read.field-0.0 = last.2 in
     rw (last.1, is) (record { due = Answer.unread (sym c.in_err-read.ensures) })
-
--- Where the tables are refused, their refusal is due.
-pub returns-in_err-ruled : goal.returns-in_err-ruled
-returns-in_err-ruled c =
-    let last = err_from_is_err_and c.from_residual-in_err-ruled.result c.from_residual-in_err-ruled.ensures.1 in
-    let is : last.0 ≡ Plan c.in_err-ruled.field-0.0 = last.2 in
-    rw (last.1, is) (record { due = refused_due c.in_err-ruled.ensures })

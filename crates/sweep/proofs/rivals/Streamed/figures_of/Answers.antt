@@ -4,11 +4,11 @@ use Rattle.sweep.proofs.Rows.{counted, room}
 use Rattle.sweep.proofs.Worked.{upto_none, upto_more, handed, lowest}
 use Rattle.sweep.proofs.rivals.Streamed.figures_of.Goals as goal
 
--- At first no figures are worked out.
+-- At first the list that is lent is cleared: no figures are worked out.
 pub loop-k-init : goal.loop-k-init
 loop-k-init c =
     let (p, S, so) = c.requires in
-    rw c.new-figures.ensures (record { room = room so.planned; count = omega arith; upto = λ p S so. upto_none })
+    rw c.clear.ensures (record { room = room so.planned; count = omega arith; upto = λ p S so. upto_none })
 
 -- The next task is one of the plan's.
 pub figure_of-requires : goal.figure_of-requires
