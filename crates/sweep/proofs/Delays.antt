@@ -1,5 +1,5 @@
 -- From a feeder to the task that it feeds: the delay that the feeder adds.
-use Rattle.std.proofs.Common.{ℕ, ◌+◌, ◌-◌, ◌<◌, ◌≡◌, ap, sym, ◌∙◌, arith, List, length, get_or}
+use Rattle.std.proofs.Common.{ℕ, ◌+◌, ◌-◌, ◌<◌, ◌^◌, ◌≡◌, ap, sym, arith, List, length, get_or}
 use Rattle.paper.specs.Limits.{most_tasks}
 use Rattle.paper.specs.Tables as Tables
 use Rattle.paper.specs.Tables.{Plan}
@@ -12,21 +12,7 @@ use Rattle.sweep.specs.declared.once.Figure.{Figure}
 use Rattle.sweep.specs.Rows.{bounds_of}
 use Rattle.sweep.specs.Planned.{Bounding}
 use Rattle.sweep.proofs.Rows.{counted, task_is, fed_by, fed_counted}
-use Rattle.sweep.proofs.Jitter.{stream_fed}
-
--- Delay upon delay is their sum,
-delayed_twice : (M : Stream) (a b : ℕ) → delayed M (b + a) ≡ delayed (delayed M a) b
-unfolding delayed
-delayed_twice M a b =
-    let sum : M.J + (b + a) ≡ M.J + a + b = omega arith in
-    ap (λ J. record { P = M.P; J = J }) sum
-
--- and none is no delay.
-pub undelayed : (M : Stream) → delayed M 0 ≡ M
-unfolding delayed
-undelayed M =
-    let same : M.J + 0 ≡ M.J = omega arith in
-    ap (λ J. record { P = M.P; J = J }) same
+use Rattle.sweep.proofs.Jitter.{stream_fed, jitter_small}
 
 module _ {p : Plan} {tasks : List Task} {set : List Figure} (so : Bounding p tasks set) {k : ℕ} (h : k < p.tasks) (d : Task)
     {feeder : TaskNo} (f : (get_or tasks k d).source ≡ Fed feeder) where
@@ -38,18 +24,17 @@ module _ {p : Plan} {tasks : List Task} {set : List Figure} (so : Bounding p tas
 
   module _ (e : Task) {delay : ℕ} (own : delay ≡ bounds_of set feeder.0 - (get_or tasks feeder.0 e).least.0) where
     -- The fed task's input stream is the feeder's, delayed,
-    delayed_is : delayed (inputs p (bounds_of set) feeder.0) delay ≡ inputs p (bounds_of set) k
+    pub delayed_is : delayed (inputs p (bounds_of set) feeder.0) delay ≡ inputs p (bounds_of set) k
     delayed_is =
         let least = ap (λ (t : Tables.Task). t.C-) (task_is so.planned feeder.0 e (fed_counted so.planned k d h f)) in
         rw (own, least) (sym (stream_fed so.planned.sound (bounds_of set) k feeder.0 h (fed_by so.planned k d h f)))
 
-    -- also where more delay is added to both,
-    pub delayed_more : (more : ℕ)
-        → delayed (inputs p (bounds_of set) feeder.0) (more + delay) ≡ delayed (inputs p (bounds_of set) k) more
-    delayed_more more = delayed_twice (inputs p (bounds_of set) feeder.0) delay more ∙ ap (λ M. delayed M more) delayed_is
-
-    -- which leaves as much room.
-    pub more_fits : (more : ℕ)
-        → (inputs p (bounds_of set) feeder.0).J + (more + delay) ≡ (inputs p (bounds_of set) k).J + more
+    -- and the delay fits.
+    pub delay_fits : (inputs p (bounds_of set) feeder.0).J + delay < 2 ^ 64
     unfolding delayed
-    more_fits more = ap (λ (M : Stream). M.J) (delayed_more more)
+    delay_fits =
+        omega (
+          arith,
+          ap (λ (M : Stream). M.J) delayed_is,
+          jitter_small so.planned.sound so.planned.ranged (bounds_of set) so.capped k h,
+        )

@@ -2,6 +2,7 @@
 mod Alike
 mod Back
 mod Delays
+mod Filling
 mod Gather
 mod Jitter
 pub mod Rows

@@ -1,12 +1,10 @@
 // Along the chains: each task's period, and its input stream.
-ghost use Rattle.std.specs.Prelude.{◌≡◌, ◌+◌, ◌<◌, ◌^◌};
+ghost use Rattle.std.specs.Prelude.{◌≡◌, ◌<◌};
 ghost use Rattle.paper.specs.Tables.{Plan};
 ghost use Rattle.paper.specs.Load as Load;
-ghost use Rattle.paper.specs.Streams.{delayed};
 ghost use Rattle.paper.specs.Sets.{inputs};
-ghost use Rattle.stream.specs.Model.{model_of};
 ghost use Rattle.sweep.specs.Rows.{per_task, period_of, stream_row, bounds_of};
-ghost use Rattle.sweep.specs.Planned.{Planned, Bounding, Known};
+ghost use Rattle.sweep.specs.Planned.{Planned, Bounding, Known, Filling, Filled};
 
 use crate::once::Figure;
 use arrayvec::ArrayVec;
@@ -43,29 +41,22 @@ pub fn periods(tasks: &[Task]) -> ArrayVec<Ticks, TASKS>
     periods
 }
 
-// A task's input stream under a set of bounds, delayed by so much more: that of its events, or its feeder's, delayed by R+ - R- of the
-// feeder too. (The delay goes along, so that no call comes back: on long chains those that did took twice the time. The streams of the
-// first tasks are known: a chain is followed no further than to one of these.)
-fn input_of(
-    tasks: &[Task],
-    set: &[Figure],
-    known: &[EventModel],
-    task: TaskNo,
-    more: Ticks,
-) -> EventModel
-    requires { (p : Plan) × Bounding p tasks.now set.now × Known (stream_row (inputs p (bounds_of set.now))) known.now
-        × (task.0 < p.tasks) × ((inputs p (bounds_of set.now) task.0).J + more.0 < 2 ^ 37) }
-    ensures { (p : Plan) → Bounding p tasks.now set.now → Known (stream_row (inputs p (bounds_of set.now))) known.now
-        → task.0 < p.tasks → model_of result ≡ delayed (inputs p (bounds_of set.now) task.0) more.0 }
+// Puts a task's input stream in its place, and its feeder's before it. (A period of 0 is that of no stream: so far none stands in that
+// place. So each stream is worked out once, in whatever order the chains go.)
+fn fill(tasks: &[Task], set: &[Figure], streams: &mut [EventModel], task: TaskNo)
+    requires { (p : Plan) × Bounding p tasks.now set.now × Filling p (inputs p (bounds_of set.now)) streams.old × (task.0 < p.tasks) }
+    ensures { (p : Plan) → Bounding p tasks.now set.now → Filling p (inputs p (bounds_of set.now)) streams.old → task.0 < p.tasks
+        → Filled p (inputs p (bounds_of set.now)) task.0 streams.old streams.new }
 {
-    if let Some(input) = known.get(task.0) {
-        return input.delayed(more);
+    if streams[task.0].period.0 != 0 {
+        return;
     }
     match tasks[task.0].source {
-        Source::Outside(start) => start.delayed(more),
+        Source::Outside(start) => streams[task.0] = start,
         Source::Fed(feeder) => {
+            fill(tasks, set, streams, feeder);
             let delay = set[feeder.0].bound.minus(tasks[feeder.0].least);
-            input_of(tasks, set, known, feeder, Ticks(more.0 + delay.0))
+            streams[task.0] = streams[feeder.0].delayed(delay);
         }
     }
 }
@@ -77,9 +68,11 @@ pub(crate) fn inputs(tasks: &[Task], set: &[Figure]) -> ArrayVec<EventModel, TAS
         → result.items ≡ per_task p (stream_row (inputs p (bounds_of set.now))) }
 {
     let mut streams = ArrayVec::new();
+    for _ in tasks {
+        streams.push(EventModel::default());
+    }
     for k in 0..tasks.len() {
-        let input = input_of(tasks, set, &streams, TaskNo(k), Ticks(0));
-        streams.push(input);
+        fill(tasks, set, &mut streams, TaskNo(k));
     }
     streams
 }
