@@ -6,7 +6,6 @@ use Rattle.std.specs.List.{refill}
 use Rattle.paper.specs.Tables.{Plan}
 use Rattle.paper.specs.Windows.{Inputs}
 use Rattle.paper.specs.Sets.{inputs}
-use Rattle.theory.specs.Plans.Inputs.{period_law, period_some}
 use Rattle.stream.specs.declared.model.EventModel.{EventModel}
 use Rattle.plan.specs.Tables.{tabulate}
 use Rattle.plan.specs.declared.tasks.Task.{Task}
@@ -14,12 +13,7 @@ use Rattle.plan.proofs.Rows.{length_tabulate, tabulate_at}
 use Rattle.sweep.specs.declared.once.Figure.{Figure}
 use Rattle.sweep.specs.Rows.{per_task, holding, stream_row, no_stream, bounds_of}
 use Rattle.sweep.specs.Planned.{Bounding, Stands, stands_at, Filling, Filled}
-
--- No task's input stream has period 0.
-some_period : {p : Plan} {tasks : List Task} {set : List Figure} → Bounding p tasks set → (k : ℕ) → k < p.tasks
-    → 1 ≤ (inputs p (bounds_of set) k).P
-some_period {set = set} so k h =
-    rw (period_law so.planned.sound (bounds_of set) k h) (period_some so.planned.sound k h)
+use Rattle.sweep.proofs.Jitter.{some_period}
 
 -- A task's stream that is put in its place stands there, and any other place is as it was.
 put_at : (rows : List EventModel) (k : ℕ) (M : EventModel) → k < length rows → (A : ℕ → EventModel → Type 0) → A k M
@@ -75,7 +69,7 @@ pub filled_put : {p : Plan} {tasks : List Task} {bounds : List Figure} {before r
     → Bounding p tasks bounds → k < p.tasks → Filling p (inputs p (bounds_of bounds)) rows
     → ((j : ℕ) → Stands before j → Stands rows j) → M ≡ stream_row (inputs p (bounds_of bounds)) k
     → Filled p (inputs p (bounds_of bounds)) k before (set rows k M)
-filled_put k M so h filling kept own = put k M h filling kept own (some_period so k h)
+filled_put k M so h filling kept own = put k M h filling kept own (some_period so.planned.sound _ k h)
 
 -- Rows that are lent come back as they are left, where they are as many.
 pub handed_back : (rows new : List EventModel) → length new ≡ length rows → refill (length rows) rows new ≡ new

@@ -8,7 +8,7 @@ use Rattle.paper.specs.Windows.{output}
 use Rattle.paper.specs.Sets.{Bounds, stream_of, inputs}
 use Rattle.theory.specs.Plans.Sound.{Sound, Ranged}
 use Rattle.theory.specs.Plans.Chains.{back_fed}
-use Rattle.theory.specs.Plans.Inputs.{inputs_law}
+use Rattle.theory.specs.Plans.Inputs.{inputs_law, period_law, period_some}
 
 module _ {p : Plan} (sound : Sound p) (R : Bounds) where
   -- The input stream of a fed task is its feeder's, delayed by R+ - R- of its feeder.
@@ -26,6 +26,10 @@ module _ {p : Plan} (sound : Sound p) (R : Bounds) where
   jitter_fed : (k j : ℕ) → k < p.tasks → (p.task k).source ≡ fed j → (inputs p R k).J ≡ (inputs p R j).J + (R j - (p.task j).C-)
   unfolding delayed
   jitter_fed k j h e = ap (λ (M : Stream). M.J) (stream_fed k j h e)
+
+  -- No input stream has period 0.
+  pub some_period : (k : ℕ) → k < p.tasks → 1 ≤ (inputs p R k).P
+  some_period k h = rw (period_law sound R k h) (period_some sound k h)
 
 module _ {p : Plan} (sound : Sound p) (ranged : Ranged p) (R : Bounds) (capped : (k : ℕ) → k < p.tasks → R k ≤ most_ticks) where
   -- From a feeder's input jitter to a fed task's it is at most the limit.

@@ -8,4 +8,3 @@ mod Jitter
 pub mod Rows
 mod Turn
 mod Worked
-pub mod Known

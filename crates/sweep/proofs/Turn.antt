@@ -8,7 +8,7 @@ use Rattle.paper.specs.Windows.{Bounded, setting}
 use Rattle.paper.specs.Sets.{inputs}
 use Rattle.paper.specs.Sweeps.{Sweep, Settles, Leaves, Leaving}
 use Rattle.paper.specs.Report.{Figures}
-use Rattle.theory.specs.Plans.Inputs.{period_law, period_some, period_most}
+use Rattle.theory.specs.Plans.Inputs.{period_law, period_most}
 use Rattle.theory.specs.Task.Preemptive.{bounded_most}
 use Rattle.theory.specs.Sweeps.Climb.{Same}
 use Rattle.theory.specs.Sweeps.Climbs.{proper, climbing}
@@ -30,7 +30,7 @@ use Rattle.sweep.specs.Rows.{per_task, stream_row, figure, no_figure, first_figu
 use Rattle.sweep.specs.Planned.{Planned, Bounding, Streaming}
 use Rattle.sweep.specs.Works.{Upto}
 use Rattle.sweep.specs.Ends.{figure_of, Settled}
-use Rattle.sweep.proofs.Jitter.{jitter_small}
+use Rattle.sweep.proofs.Jitter.{some_period, jitter_small}
 
 -- The input streams that a set gives have numbers in range.
 pub streaming : {p : Plan} {tasks : List Task} {set : List Figure} {streams : List EventModel} → Bounding p tasks set
@@ -41,7 +41,7 @@ streaming {set = set} b e =
     record {
       planned = so;
       streams = e;
-      some_period = λ k h. rw (period_law so.sound R k h) (period_some so.sound k h);
+      some_period = some_period so.sound R;
       short_period = λ k h. rw (period_law so.sound R k h) (period_most so.sound so.ranged k h);
       small_jitter = jitter_small so.sound so.ranged R b.capped;
     }

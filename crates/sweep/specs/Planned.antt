@@ -5,7 +5,7 @@ use Rattle.paper.specs.Tables.{Plan}
 use Rattle.paper.specs.Windows.{Inputs}
 use Rattle.theory.specs.Plans.Sound.{Sound, Ranged}
 use Rattle.stream.specs.declared.model.EventModel.{EventModel}
-use Rattle.plan.specs.Tables.{tabulate, task_rows}
+use Rattle.plan.specs.Tables.{task_rows}
 use Rattle.plan.specs.declared.tasks.Task.{Task}
 use Rattle.sweep.specs.declared.once.Figure.{Figure}
 use Rattle.sweep.specs.Rows.{per_task, holding, stream_row, no_stream, bounds_of}
@@ -29,10 +29,6 @@ pub record Streaming (p : Plan) (S : Inputs) (tasks : List Task) (inputs : List 
   pub some_period : (k : ℕ) → k < p.tasks → 1 ≤ (S k).P
   pub short_period : (k : ℕ) → k < p.tasks → (S k).P ≤ most_ticks
   pub small_jitter : (k : ℕ) → k < p.tasks → (S k).J < 2 ^ 37
-
--- Of the first tasks something is known: f of each.
-abbrev pub Known : {A : Type 0} → (ℕ → A) → List A → Type 0
-Known f known = known ≡ tabulate (length known) f
 
 -- The row of task k in a list of input streams that is being filled; past the last row there is no stream.
 abbrev pub stands_at : List EventModel → ℕ → EventModel

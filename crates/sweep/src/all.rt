@@ -53,6 +53,7 @@ pub fn settle(tasks: &[Task], figures: &mut ArrayVec<Figure, TASKS>) -> Result<u
         if same(&set, figures) {
             return Ok(sweeps);
         }
+        // The figures are the next sweep's previous set. (There is room: they are as many as the tasks.)
         set.clear();
         let _ = set.try_extend_from_slice(figures);
     }

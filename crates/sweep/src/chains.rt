@@ -4,7 +4,7 @@ ghost use Rattle.paper.specs.Tables.{Plan};
 ghost use Rattle.paper.specs.Load as Load;
 ghost use Rattle.paper.specs.Sets.{inputs};
 ghost use Rattle.sweep.specs.Rows.{per_task, period_of, stream_row, bounds_of};
-ghost use Rattle.sweep.specs.Planned.{Planned, Bounding, Known, Filling, Filled};
+ghost use Rattle.sweep.specs.Planned.{Planned, Bounding, Filling, Filled};
 
 use crate::once::Figure;
 use arrayvec::ArrayVec;
@@ -12,19 +12,14 @@ use limits::TASKS;
 use plan::{Source, Task};
 use stream::{EventModel, TaskNo, Ticks};
 
-// A task's period: that of its events, or its feeder's. It asks for no set of bounds, as the input stream does. (The periods of the first
-// tasks are known: a chain is followed no further than to one of these.)
-fn period_of(tasks: &[Task], known: &[Ticks], task: TaskNo) -> Ticks
-    requires { (p : Plan) × Planned p tasks.now × Known (period_of p) known.now × (task.0 < p.tasks) }
-    ensures { (p : Plan) → Planned p tasks.now → Known (period_of p) known.now → task.0 < p.tasks
-        → result ≡ period_of p task.0 }
+// A task's period: that of its events, or its feeder's. It asks for no set of bounds, as the input stream does.
+fn period_of(tasks: &[Task], task: TaskNo) -> Ticks
+    requires { (p : Plan) × Planned p tasks.now × (task.0 < p.tasks) }
+    ensures { (p : Plan) → Planned p tasks.now → task.0 < p.tasks → result ≡ period_of p task.0 }
 {
-    if let Some(period) = known.get(task.0) {
-        return *period;
-    }
     match tasks[task.0].source {
         Source::Outside(start) => start.period,
-        Source::Fed(feeder) => period_of(tasks, known, feeder),
+        Source::Fed(feeder) => period_of(tasks, feeder),
     }
 }
 
@@ -35,8 +30,7 @@ pub fn periods(tasks: &[Task]) -> ArrayVec<Ticks, TASKS>
 {
     let mut periods = ArrayVec::new();
     for k in 0..tasks.len() {
-        let period = period_of(tasks, &periods, TaskNo(k));
-        periods.push(period);
+        periods.push(period_of(tasks, TaskNo(k)));
     }
     periods
 }

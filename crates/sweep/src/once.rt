@@ -72,7 +72,7 @@ impl Streamed<'_> {
 }
 
 // Sweep number `number`: the figures of all tasks anew from the previous set, or the lowest task that leaves the limits. The list of
-// figures is lent: one that was made in each sweep was cleared and handed on thrice.
+// figures is lent, so that no sweep has to make one and hand it back.
 pub(crate) fn sweep(
     tasks: &[Task],
     set: &[Figure],

@@ -4,7 +4,6 @@ use Rattle.plan.specs.Tables.{tabulate}
 use Rattle.plan.proofs.Rows.{tabulated}
 use Rattle.sweep.specs.Rows.{period_of}
 use Rattle.sweep.proofs.Rows.{counted, room}
-use Rattle.sweep.proofs.Known.{knowing}
 use Rattle.sweep.proofs.chains.periods.Goals as goal
 
 -- At first there is none.
@@ -15,11 +14,10 @@ loop-k-init c =
     record { room = room so; count = ap length c.new-periods.ensures; filled = λ p so. c.new-periods.ensures }
 
 -- The next task is one of the plan's.
-pub period_of-period-requires : goal.period_of-period-requires
-period_of-period-requires c =
+pub period_of-requires : goal.period_of-requires
+period_of-requires c =
     let (p, so) = c.requires in
-    let so_far = c.loop-k.invariant in
-    (p, so, knowing (period_of p) c.deref.ensures.0 so_far.count (so_far.filled p so), omega (arith, counted so))
+    (p, so, omega (arith, counted so))
 
 -- Its period is put last.
 pub loop-k-preserved : goal.loop-k-preserved
@@ -30,7 +28,7 @@ loop-k-preserved c =
       count = omega (arith, c.push.ensures.len);
       filled = λ p so.
           c.push.ensures.items
-          ∙ tabulated (period_of p) (so_far.filled p so) (c.period_of-period.ensures p so (knowing (period_of p) c.deref.ensures.0 so_far.count (so_far.filled p so)) (omega (arith, counted so)));
+          ∙ tabulated (period_of p) (so_far.filled p so) (c.period_of.ensures p so (omega (arith, counted so)));
     }
 
 -- At the end every task has its own.
